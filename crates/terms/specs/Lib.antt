@@ -1,0 +1,4 @@
+pub mod Term
+pub mod Known
+pub mod Rows
+pub mod Goals

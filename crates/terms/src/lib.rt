@@ -1,0 +1,8 @@
+//! Terms as rows of nodes: each argument stands before the node that uses it.
+
+pub mod known;
+pub mod node;
+pub mod row;
+
+pub use node::Node;
+pub use row::Row;

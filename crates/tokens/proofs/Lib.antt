@@ -1,0 +1,3 @@
+pub mod BytesProperties
+pub mod ScanningProperties
+pub mod QuoteProperties

@@ -1,0 +1,11 @@
+use mathlib.Core.Path.{sym, ap, _∙_}
+use native.Mathlib.Omega.{arith}
+use Rattle.tokens.specs.Scanning.{digitAt}
+use Rattle.tokens.proofs.BytesProperties.{drop-here, drop-past-the-end, false-true}
+use Rattle.tokens.proofs.scan.digit_at.Needs as need
+
+pub returns-then-at-line : need.returns-then-at-line
+returns-then-at-line c = record { value = c .in-run .ensures ∙ sym (ap digitAt (drop-here (c .args .line .now) (c .args .at) (omega arith))); inside = λ h. omega arith }
+
+pub returns-else-at-line : need.returns-else-at-line
+returns-else-at-line c = record { value = sym (ap digitAt (drop-past-the-end (c .args .line .now) (c .args .at) (omega arith))); inside = λ h. false-true h }

@@ -1,0 +1,4 @@
+//! Tokens as parts of a line.
+
+pub mod kind;
+pub mod scan;
