@@ -16,3 +16,9 @@ pub mod CompletingProperties
 pub mod GrammarExamples
 pub mod BlameProperties
 pub mod ReadingProperties
+pub mod KindProperties
+pub mod StepProperties
+pub mod PlaceProperties
+pub mod NamedProperties
+pub mod NeckProperties
+pub mod QuoteParity

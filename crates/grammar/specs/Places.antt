@@ -6,11 +6,14 @@ use lib.Dec.{eqb}
 use Rattle.std.specs.declared.option.Option.{Option}
 use Rattle.std.specs.declared.option.Option.the-variants.{Some, None}
 use Rattle.tokens.specs.declared.kind.Kind.{Kind}
-use Rattle.tokens.specs.declared.kind.Kind.the-variants.{Small, Capital, Digit, Symbol, Solo, Quote, Opening, Closing, Left, Right, Bar, Comma, Stop, Space, Stray}
-use Rattle.tokens.specs.Token.{name, variable, integer, neck, opening, closing, left, right, bar, comma, stop, Scan, nothing, endless, got}
+use Rattle.tokens.specs.declared.kind.Kind.the-variants.{Small, Capital, Digit, Symbol, Solo, Quote, Opening}
+use Rattle.tokens.specs.declared.kind.Kind.the-variants.{Closing, Left, Right, Bar, Comma, Stop, Space, Stray}
+use Rattle.tokens.specs.Token.{name, variable, integer, neck, opening, closing, left, right, bar, comma, stop}
+use Rattle.tokens.specs.Token.{Scan, nothing, endless, got}
 use Rattle.grammar.specs.Written.{Written, var, int, Sentence}
 use Rattle.grammar.specs.Machine.{VerdictOf, bad, onward}
-use Rattle.grammar.specs.Sentences.{Context, head, among, tail, arguments, round, square, Place, named, after, bracket, atEmpty, atClosing, atRight, atBar, atComma, atStop, sentences}
+use Rattle.grammar.specs.Sentences.{Context, head, among, tail, round, square, Place, named, after, bracket, sentences}
+use Rattle.grammar.specs.Sentences.{atEmpty, atClosing, atRight, atBar, atComma, atStop}
 
 -- a token that is taken or not, with s the bytes from it on and r those behind it
 abbrev pub takenOr : ℕ → Option Place → List ℕ → List ℕ → VerdictOf Sentence

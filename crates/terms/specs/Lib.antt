@@ -2,3 +2,8 @@ pub mod Term
 pub mod Known
 pub mod Rows
 pub mod Goals
+pub mod Places
+pub mod Tables
+pub mod BuiltIns
+pub mod RowViews
+pub mod Copies

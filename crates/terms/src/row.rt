@@ -1,18 +1,16 @@
 //! A row of nodes in memory that is reserved when the row is made.
 
 ghost use mathlib.Core.Path.{_≡_};
-ghost use mathlib.Core.Bool.{true, false, cond, _&&_};
-ghost use mathlib.Core.List.{_++_, _∷_, []};
-ghost use Prim.Native.Nat.{ℕ, _+_, _^_, _<_, _≤_};
-ghost use lib.Dec.{ltb};
-ghost use lib.ListN.{length, getD, take};
+ghost use mathlib.Core.Bool.{true};
+ghost use Prim.Native.Nat.{_≤_};
 ghost use Rattle.std.specs.Of.Vec.{vec-items, vec-len, vec-cap};
-ghost use Rattle.std.specs.Vec.{made};
-ghost use Rattle.terms.specs.Rows.{fitting, fittingFrom};
+ghost use Rattle.terms.specs.Rows.{fittingFrom};
 use crate::node::Node;
-use std::alloc::AllocError;
-use std::alloc::Global;
 
+mod change;
+mod read;
+
+// At most `limit` nodes, of which each has at most eight arguments, and they stand before it.
 #[derive(Drop)]
 pub struct Row {
     nodes: Vec<Node>,
