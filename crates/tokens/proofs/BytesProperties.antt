@@ -99,8 +99,8 @@ not-first true k x h n = absurd (n h)
 not-first false k x h n = h
 
 pub space-by-kind : (c : ℕ) → class c ≡ Space → space c ≡ true
-space-by-kind c h = last (space c) (not-first (eqb c 46) Stop _ (not-first (eqb c 44) Comma _ (not-first (eqb c 124) Bar _ (not-first (eqb c 93) Right _ (not-first (eqb c 91) Left _ (not-first (eqb c 41) Closing _ (not-first (eqb c 40) Opening _ 
-        (not-first (quote c) Quote _ (not-first (eqb c 59 || eqb c 33) Solo _ (not-first (symbol c) Symbol _ (not-first (digit c) Digit _ (not-first (capital c) Capital _ (not-first (small c) Small _ h (λ e. other cc)) (λ e. other cc)) (λ e. other cc)) (λ e. other cc)) (λ e. other cc)) (λ e. other cc)) (λ e. other cc)) (λ e. other cc)) (λ e. other cc)) (λ e. other cc)) (λ e. other cc)) (λ e. other cc)) (λ e. other cc))
+space-by-kind c h = last (space c) (not-first (eqb c 46) Stop _ (not-first (eqb c 44) Comma _ (not-first (eqb c 124) Bar _ (not-first (eqb c 93) Right _ (not-first (eqb c 91) Left _ (not-first (eqb c 41) Closing _ (not-first (eqb c 40) Opening _
+    (not-first (quote c) Quote _ (not-first (eqb c 59 || eqb c 33) Solo _ (not-first (symbol c) Symbol _ (not-first (digit c) Digit _ (not-first (capital c) Capital _ (not-first (small c) Small _ h (λ e. other cc)) (λ e. other cc)) (λ e. other cc)) (λ e. other cc)) (λ e. other cc)) (λ e. other cc)) (λ e. other cc)) (λ e. other cc)) (λ e. other cc)) (λ e. other cc)) (λ e. other cc)) (λ e. other cc)) (λ e. other cc))
   where
     last : (b : Bool) → cond b Space Stray ≡ Space → b ≡ true
     last true g = refl

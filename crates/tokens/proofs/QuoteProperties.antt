@@ -65,8 +65,8 @@ reading-plain s m h q r =
       whole = ap (half false) e ∙ half-append false (take m s) (c ∷ []) ∙ ap (λ b. half b (c ∷ [])) (r .whole) ∙ n;
       is = r .is ∙ ap (scanFrom (inside (undouble false (take m s)))) d ∙ plain-scan (undouble false (take m s)) (drop (m + 1) s) c n
           ∙ ap (λ l. scanFrom (inside l) (drop (m + 1) s)) (sym (ap (undouble false) e ∙ undouble-append false (take m s) (c ∷ [])
-              ∙ ap (λ b. undouble false (take m s) ++ undouble b (c ∷ [])) (r .whole)
-              ∙ ap (λ b. undouble false (take m s) ++ cond b [] (c ∷ [])) n));
+          ∙ ap (λ b. undouble false (take m s) ++ undouble b (c ∷ [])) (r .whole)
+          ∙ ap (λ b. undouble false (take m s) ++ cond b [] (c ∷ [])) n));
     }
 
 -- two quotes
@@ -87,8 +87,8 @@ reading-doubled s m h q₁ q₂ r =
       is = r .is ∙ ap (scanFrom (inside bs)) dc ∙ quote-scan bs (drop (m + 1) s) c n₁ ∙ ap (scanFrom (closed bs)) dd ∙ again-scan bs (drop (m + 1 + 1) s) d n₂
           ∙ ap (λ n. scanFrom (inside (bs ++ d ∷ [])) (drop n s)) a
           ∙ ap (λ x. scanFrom (inside x) (drop (m + 2) s)) (sym (ap (undouble false) e ∙ undouble-append false (take m s) (c ∷ d ∷ [])
-              ∙ ap (λ b. bs ++ undouble b (c ∷ d ∷ [])) (r .whole)
-              ∙ ap (λ b. bs ++ cond b (d ∷ []) (c ∷ undouble false (d ∷ []))) n₁));
+          ∙ ap (λ b. bs ++ undouble b (c ∷ d ∷ [])) (r .whole)
+          ∙ ap (λ b. bs ++ cond b (d ∷ []) (c ∷ undouble false (d ∷ []))) n₁));
     }
 
 -- the quote that closes it

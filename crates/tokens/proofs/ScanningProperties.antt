@@ -36,7 +36,7 @@ module _ (f : ℕ → Bool) (shape : List ℕ → Part) (made : List ℕ → Tok
   scan-run (c ∷ s) bs =
       ap (λ m. orElse m (scanned (ended (shape bs)) (c ∷ s)) (λ q. scanFrom q s)) (goes bs c)
       ∙ elim (f c) as (λ b. orElse (cond b (Some (shape (bs ++ c ∷ []))) None) (scanned (ended (shape bs)) (c ∷ s)) (λ q. scanFrom q s)
-          ≡ got (made (bs ++ cond b (c ∷ longest f s) [])) (cond b (past f s) (c ∷ s))) [
+      ≡ got (made (bs ++ cond b (c ∷ longest f s) [])) (cond b (past f s) (c ∷ s))) [
         | true ↦ scan-run s (bs ++ c ∷ []) ∙ ap (λ l. got (made l) (past f s)) (append-assoc bs (c ∷ []) (longest f s))
         | false ↦ ap (λ m. scanned m (c ∷ s)) (stops bs) ∙ ap (λ l. got (made l) (c ∷ s)) (sym (append-nil bs))
       ]
@@ -78,10 +78,10 @@ stops-at c s bs = go (same bs minusBytes && digit c) refl
 pub scan-symbols : (s bs : List ℕ) → scanFrom (symbols bs) s ≡ symbolsBefore (bs ++ longest symbol s) (past symbol s)
 scan-symbols [] bs =
     sym (ap (λ b. cond b (got (integer ((bs ++ []) ++ [])) []) (got (run (bs ++ [])) [])) (and-false-right (same (bs ++ []) minusBytes))
-        ∙ ap (λ l. got (run l) []) (append-nil bs))
+    ∙ ap (λ l. got (run l) []) (append-nil bs))
 scan-symbols (c ∷ s) bs =
     elim (symbol c) as (λ b. orElse (cond b (Some (symbols (bs ++ c ∷ []))) (cond (same bs minusBytes && digit c) (Some (digits (bs ++ c ∷ []))) None)) (got (run bs) (c ∷ s)) (λ q. scanFrom q s)
-        ≡ symbolsBefore (bs ++ cond b (c ∷ longest symbol s) []) (cond b (past symbol s) (c ∷ s))) [
+    ≡ symbolsBefore (bs ++ cond b (c ∷ longest symbol s) []) (cond b (past symbol s) (c ∷ s))) [
       | true ↦ scan-symbols s (bs ++ c ∷ []) ∙ ap (λ l. symbolsBefore l (past symbol s)) (append-assoc bs (c ∷ []) (longest symbol s))
       | false ↦ stops-at c s bs ∙ ap (λ l. symbolsBefore l (c ∷ s)) (sym (append-nil bs))
     ]

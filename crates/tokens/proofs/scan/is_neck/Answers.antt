@@ -14,8 +14,8 @@ returns-then-bytes-eq58 c =
 pub returns-else-bytes-eq58 : need.returns-else-bytes-eq58
 returns-else-bytes-eq58 c =
     sym (is-neck-of-two (c .args .bytes .now) (omega arith)
-        ∙ ap (λ b. b && eqb (getD (c .args .bytes .now) 1 0) 45) (ne-eqb _ 58 (c .if-bytes-eq58 .left))
-        ∙ sym (ne-eqb _ 58 (c .if-bytes-eq58 .left)))
+    ∙ ap (λ b. b && eqb (getD (c .args .bytes .now) 1 0) 45) (ne-eqb _ 58 (c .if-bytes-eq58 .left))
+    ∙ sym (ne-eqb _ 58 (c .if-bytes-eq58 .left)))
 
 pub returns-else-bytes-eq2 : need.returns-else-bytes-eq2
 returns-else-bytes-eq2 c = sym (is-no-neck (c .args .bytes .now) (λ h. omega arith))

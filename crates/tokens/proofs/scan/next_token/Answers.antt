@@ -38,6 +38,8 @@ pub returns-else-start-line : need.returns-else-start-line
 returns-else-start-line c =
     let line = c .args .line .now in
     let n = length line in
-    let i = c .run-end-start .result in
-    (record { is = ap (scan spaced) (drop-past-the-end line n (omega arith)); holds = tt; long = (refl, refl); within = omega arith },
-    drop-past-the-end line n (omega arith) ∙ sym (drop-past-the-end line i (omega arith)) ∙ c .run-end-start .ensures .value, λ h. h)
+    let i = c .run-end-start .result in (
+      record { is = ap (scan spaced) (drop-past-the-end line n (omega arith)); holds = tt; long = (refl, refl); within = omega arith },
+      drop-past-the-end line n (omega arith) ∙ sym (drop-past-the-end line i (omega arith)) ∙ c .run-end-start .ensures .value,
+      λ h. h,
+    )

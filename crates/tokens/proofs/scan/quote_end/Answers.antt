@@ -24,9 +24,12 @@ loop-i-again-then-not-quote-at c =
     let i = c .loop-i .i in
     let l = c .loop-i .inv .0 in
     let k = length-drop pos line in
-    let e : i + 1 - pos ≡ i - pos + 1 = omega arith in
-    (omega arith, omega arith, subst (λ m. Reading (drop pos line) m) (sym e)
-        (reading-plain (drop pos line) (i - pos) (omega arith) (ap quoteAt (at-place line pos i l) ∙ sym (c .if-not-quote-at .ensures tt .value)) (c .loop-i .inv .2)))
+    let e : i + 1 - pos ≡ i - pos + 1 = omega arith in (
+      omega arith,
+      omega arith,
+      subst (λ m. Reading (drop pos line) m) (sym e)
+          (reading-plain (drop pos line) (i - pos) (omega arith) (ap quoteAt (at-place line pos i l) ∙ sym (c .if-not-quote-at .ensures tt .value)) (c .loop-i .inv .2)),
+    )
 
 pub loop-i-again : need.loop-i-again
 loop-i-again c =
@@ -36,10 +39,13 @@ loop-i-again c =
     let l = c .loop-i .inv .0 in
     let k = length-drop pos line in
     let h = c .if-quote-at .ensures tt .inside refl in
-    let e : i + 2 - pos ≡ i - pos + 2 = omega arith in
-    (omega arith, omega arith, subst (λ m. Reading (drop pos line) m) (sym e)
-        (reading-doubled (drop pos line) (i - pos) (omega arith) (ap quoteAt (at-place line pos i l) ∙ sym (c .if-not-quote-at .ensures tt .value))
-            (ap quoteAt (next-place line pos i l) ∙ sym (c .if-quote-at .ensures tt .value)) (c .loop-i .inv .2)))
+    let e : i + 2 - pos ≡ i - pos + 2 = omega arith in (
+      omega arith,
+      omega arith,
+      subst (λ m. Reading (drop pos line) m) (sym e)
+          (reading-doubled (drop pos line) (i - pos) (omega arith) (ap quoteAt (at-place line pos i l) ∙ sym (c .if-not-quote-at .ensures tt .value))
+          (ap quoteAt (next-place line pos i l) ∙ sym (c .if-quote-at .ensures tt .value)) (c .loop-i .inv .2)),
+    )
 
 pub returns-else-quote-at : need.returns-else-quote-at
 returns-else-quote-at c =
@@ -48,12 +54,14 @@ returns-else-quote-at c =
     let i = c .loop-i .i in
     let l = c .loop-i .inv .0 in
     let k = length-drop pos line in
-    let e : i - pos ≡ i + 1 - 1 - pos = omega arith in
-    (omega arith, omega arith,
-        reading-closed (drop pos line) (i - pos) (omega arith) (ap quoteAt (at-place line pos i l) ∙ sym (c .if-not-quote-at .ensures tt .value))
-            (ap quoteAt (next-place line pos i l) ∙ sym (c .if-quote-at .ensures tt .value)) (c .loop-i .inv .2)
-        ∙ ap (λ m. got (name (undouble false (take m (drop pos line)))) (drop (i - pos + 1) (drop pos line))) e
-        ∙ ap (λ r. got (name (undouble false (take (i + 1 - 1 - pos) (drop pos line)))) r) (next-place line pos i l))
+    let e : i - pos ≡ i + 1 - 1 - pos = omega arith in (
+      omega arith,
+      omega arith,
+      reading-closed (drop pos line) (i - pos) (omega arith) (ap quoteAt (at-place line pos i l) ∙ sym (c .if-not-quote-at .ensures tt .value))
+          (ap quoteAt (next-place line pos i l) ∙ sym (c .if-quote-at .ensures tt .value)) (c .loop-i .inv .2)
+          ∙ ap (λ m. got (name (undouble false (take m (drop pos line)))) (drop (i - pos + 1) (drop pos line))) e
+          ∙ ap (λ r. got (name (undouble false (take (i + 1 - 1 - pos) (drop pos line)))) r) (next-place line pos i l),
+    )
 
 pub returns : need.returns
 returns c =

@@ -18,15 +18,17 @@ returns-in-Small c =
     let e = c .run-end-end .result in
     let v = c .run-end-end .ensures .value in
     let w : e ≤ length line = c .run-end-end .ensures .within .1 (omega arith) in
-    let u : i + 1 ≤ e = c .run-end-end .ensures .within .0 in
-    (record {
-      is = scan-by-kind line i spaced Small (c .pre .0) (sym (c .in-Small .ensures tt .value)) ∙ scan-small (drop (i + 1) line) (getD line i 0 ∷ [])
-          ∙ ap (λ l. got (name l) (past word (drop (i + 1) line))) (sym (slice-of-run word line i e (c .pre .0) v u w))
-          ∙ ap (λ r. got (name (take (e - i) (drop i line))) r) (sym v);
-      holds = refl;
-      long = omega arith;
-      within = w;
-    }, refl)
+    let u : i + 1 ≤ e = c .run-end-end .ensures .within .0 in (
+      record {
+        is = scan-by-kind line i spaced Small (c .pre .0) (sym (c .in-Small .ensures tt .value)) ∙ scan-small (drop (i + 1) line) (getD line i 0 ∷ [])
+            ∙ ap (λ l. got (name l) (past word (drop (i + 1) line))) (sym (slice-of-run word line i e (c .pre .0) v u w))
+            ∙ ap (λ r. got (name (take (e - i) (drop i line))) r) (sym v);
+        holds = refl;
+        long = omega arith;
+        within = w;
+      },
+      refl,
+    )
 
 pub returns-in-Capital : need.returns-in-Capital
 returns-in-Capital c =
@@ -35,15 +37,17 @@ returns-in-Capital c =
     let e = c .run-end-end-in-Capital .result in
     let v = c .run-end-end-in-Capital .ensures .value in
     let w : e ≤ length line = c .run-end-end-in-Capital .ensures .within .1 (omega arith) in
-    let u : i + 1 ≤ e = c .run-end-end-in-Capital .ensures .within .0 in
-    (record {
-      is = scan-by-kind line i spaced Capital (c .pre .0) (sym (c .in-Capital .ensures tt .value)) ∙ scan-capital (drop (i + 1) line) (getD line i 0 ∷ [])
-          ∙ ap (λ l. got (variable l) (past word (drop (i + 1) line))) (sym (slice-of-run word line i e (c .pre .0) v u w))
-          ∙ ap (λ r. got (variable (take (e - i) (drop i line))) r) (sym v);
-      holds = refl;
-      long = omega arith;
-      within = w;
-    }, refl)
+    let u : i + 1 ≤ e = c .run-end-end-in-Capital .ensures .within .0 in (
+      record {
+        is = scan-by-kind line i spaced Capital (c .pre .0) (sym (c .in-Capital .ensures tt .value)) ∙ scan-capital (drop (i + 1) line) (getD line i 0 ∷ [])
+            ∙ ap (λ l. got (variable l) (past word (drop (i + 1) line))) (sym (slice-of-run word line i e (c .pre .0) v u w))
+            ∙ ap (λ r. got (variable (take (e - i) (drop i line))) r) (sym v);
+        holds = refl;
+        long = omega arith;
+        within = w;
+      },
+      refl,
+    )
 
 -- a run begins with a digit if neither with a small nor with a capital letter
 left-over : {k : Kind} → RunKind k → (k ≡ Small → ⊥) → (k ≡ Capital → ⊥) → k ≡ Digit
@@ -59,12 +63,14 @@ returns-in-rest c =
     let v = c .run-end-end-in-rest .ensures .value in
     let w : e ≤ length line = c .run-end-end-in-rest .ensures .within .1 (omega arith) in
     let u : i + 1 ≤ e = c .run-end-end-in-rest .ensures .within .0 in
-    let k : headKind (drop i line) ≡ Digit = left-over (c .pre .1) (λ a. c .in-rest .not-Small (c .kind-at .ensures .value ∙ a)) (λ a. c .in-rest .not-Capital (c .kind-at .ensures .value ∙ a)) in
-    (record {
-      is = scan-by-kind line i spaced Digit (c .pre .0) k ∙ scan-digits (drop (i + 1) line) (getD line i 0 ∷ [])
-          ∙ ap (λ l. got (integer l) (past digit (drop (i + 1) line))) (sym (slice-of-run digit line i e (c .pre .0) v u w))
-          ∙ ap (λ r. got (integer (take (e - i) (drop i line))) r) (sym v);
-      holds = refl;
-      long = omega arith;
-      within = w;
-    }, refl)
+    let k : headKind (drop i line) ≡ Digit = left-over (c .pre .1) (λ a. c .in-rest .not-Small (c .kind-at .ensures .value ∙ a)) (λ a. c .in-rest .not-Capital (c .kind-at .ensures .value ∙ a)) in (
+      record {
+        is = scan-by-kind line i spaced Digit (c .pre .0) k ∙ scan-digits (drop (i + 1) line) (getD line i 0 ∷ [])
+            ∙ ap (λ l. got (integer l) (past digit (drop (i + 1) line))) (sym (slice-of-run digit line i e (c .pre .0) v u w))
+            ∙ ap (λ r. got (integer (take (e - i) (drop i line))) r) (sym v);
+        holds = refl;
+        long = omega arith;
+        within = w;
+      },
+      refl,
+    )

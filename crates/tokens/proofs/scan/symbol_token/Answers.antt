@@ -41,13 +41,15 @@ returns-then-is-sign c =
     let w : e ≤ length line = c .run-end-end .ensures .within .1 (omega arith) in
     let u : i + 1 ≤ e = c .run-end-end .ensures .within .0 in
     let x : l ≤ length line = c .run-end-last .ensures .within .1 w in
-    let y : e ≤ l = c .run-end-last .ensures .within .0 in
-    (record {
-      is = symbols-at line i e (c .pre .0) (c .pre .1) (c .run-end-end .ensures .value) u w ∙ signed line i e l u y x (c .run-end-last .ensures .value) (c .if-is-sign .ensures tt);
-      holds = refl;
-      long = omega arith;
-      within = x;
-    }, refl)
+    let y : e ≤ l = c .run-end-last .ensures .within .0 in (
+      record {
+        is = symbols-at line i e (c .pre .0) (c .pre .1) (c .run-end-end .ensures .value) u w ∙ signed line i e l u y x (c .run-end-last .ensures .value) (c .if-is-sign .ensures tt);
+        holds = refl;
+        long = omega arith;
+        within = x;
+      },
+      refl,
+    )
 
 pub returns-then-is-neck : need.returns-then-is-neck
 returns-then-is-neck c =
@@ -56,14 +58,16 @@ returns-then-is-neck c =
     let e = c .run-end-end .result in
     let w : e ≤ length line = c .run-end-end .ensures .within .1 (omega arith) in
     let u : i + 1 ≤ e = c .run-end-end .ensures .within .0 in
-    let bs = take (e - i) (drop i line) in
-    (record {
-      is = symbols-at line i e (c .pre .0) (c .pre .1) (c .run-end-end .ensures .value) u w ∙ unsigned bs (drop e line) (c .if-is-sign .ensures tt)
-          ∙ ap (λ b. got (cond b neck (name bs)) (drop e line)) (sym (c .if-is-neck .ensures tt));
-      holds = tt;
-      long = omega arith;
-      within = w;
-    }, refl)
+    let bs = take (e - i) (drop i line) in (
+      record {
+        is = symbols-at line i e (c .pre .0) (c .pre .1) (c .run-end-end .ensures .value) u w ∙ unsigned bs (drop e line) (c .if-is-sign .ensures tt)
+            ∙ ap (λ b. got (cond b neck (name bs)) (drop e line)) (sym (c .if-is-neck .ensures tt));
+        holds = tt;
+        long = omega arith;
+        within = w;
+      },
+      refl,
+    )
 
 pub returns-else-is-neck : need.returns-else-is-neck
 returns-else-is-neck c =
@@ -72,11 +76,13 @@ returns-else-is-neck c =
     let e = c .run-end-end .result in
     let w : e ≤ length line = c .run-end-end .ensures .within .1 (omega arith) in
     let u : i + 1 ≤ e = c .run-end-end .ensures .within .0 in
-    let bs = take (e - i) (drop i line) in
-    (record {
-      is = symbols-at line i e (c .pre .0) (c .pre .1) (c .run-end-end .ensures .value) u w ∙ unsigned bs (drop e line) (c .if-is-sign .ensures tt)
-          ∙ ap (λ b. got (cond b neck (name bs)) (drop e line)) (sym (c .if-is-neck .ensures tt));
-      holds = refl;
-      long = omega arith;
-      within = w;
-    }, refl)
+    let bs = take (e - i) (drop i line) in (
+      record {
+        is = symbols-at line i e (c .pre .0) (c .pre .1) (c .run-end-end .ensures .value) u w ∙ unsigned bs (drop e line) (c .if-is-sign .ensures tt)
+            ∙ ap (λ b. got (cond b neck (name bs)) (drop e line)) (sym (c .if-is-neck .ensures tt));
+        holds = refl;
+        long = omega arith;
+        within = w;
+      },
+      refl,
+    )

@@ -21,33 +21,37 @@ use Rattle.tokens.proofs.scan.token_at.Needs as need
 marked : (line : List ℕ) (i : ℕ) (k : Kind) (t : Token) (x : spec.Token) (f : Found) → i < length line → k ≡ headKind (drop i line)
     → spec.startAs k spec.spaced (getD line i 0) ≡ Some (spec.single x) → scanOf t (drop (i + 1) line) ≡ spec.got x (drop (i + 1) line)
     → Holds line t i (i + 1) → Length t i (i + 1) (length line) → (f .token ≡ t) × (f .start ≡ i) × (f .end ≡ i + 1) → Stands line f × (f .start ≡ i)
-marked line i k t x f h g b o d l m =
-    (record {
-      is = ap (λ n. spec.scan spec.spaced (drop n line)) (m .1) ∙ scan-by-kind line i spec.spaced k h (sym g)
-          ∙ ap (λ q. spec.orElse q spec.nothing (λ q. spec.scanFrom q (drop (i + 1) line))) b ∙ scan-single x (drop (i + 1) line) ∙ sym o
-          ∙ ap (λ y. scanOf y (drop (i + 1) line)) (sym (m .0)) ∙ ap (λ n. scanOf (f .token) (drop n line)) (sym (m .2));
-      holds = let p : Holds line (f .token) i (i + 1) = subst (λ y. Holds line y i (i + 1)) (sym (m .0)) d in
-          let q : Holds line (f .token) (f .start) (i + 1) = subst (λ n. Holds line (f .token) n (i + 1)) (sym (m .1)) p in
-          subst (λ n. Holds line (f .token) (f .start) n) (sym (m .2)) q;
-      long = let p : Length (f .token) i (i + 1) (length line) = subst (λ y. Length y i (i + 1) (length line)) (sym (m .0)) l in
-          let q : Length (f .token) (f .start) (i + 1) (length line) = subst (λ n. Length (f .token) n (i + 1) (length line)) (sym (m .1)) p in
-          subst (λ n. Length (f .token) (f .start) n (length line)) (sym (m .2)) q;
-      within = omega (arith, m .2);
-    }, m .1)
+marked line i k t x f h g b o d l m = (
+  record {
+    is = ap (λ n. spec.scan spec.spaced (drop n line)) (m .1) ∙ scan-by-kind line i spec.spaced k h (sym g)
+        ∙ ap (λ q. spec.orElse q spec.nothing (λ q. spec.scanFrom q (drop (i + 1) line))) b ∙ scan-single x (drop (i + 1) line) ∙ sym o
+        ∙ ap (λ y. scanOf y (drop (i + 1) line)) (sym (m .0)) ∙ ap (λ n. scanOf (f .token) (drop n line)) (sym (m .2));
+    holds = let p : Holds line (f .token) i (i + 1) = subst (λ y. Holds line y i (i + 1)) (sym (m .0)) d in
+        let q : Holds line (f .token) (f .start) (i + 1) = subst (λ n. Holds line (f .token) n (i + 1)) (sym (m .1)) p in
+        subst (λ n. Holds line (f .token) (f .start) n) (sym (m .2)) q;
+    long = let p : Length (f .token) i (i + 1) (length line) = subst (λ y. Length y i (i + 1) (length line)) (sym (m .0)) l in
+        let q : Length (f .token) (f .start) (i + 1) (length line) = subst (λ n. Length (f .token) n (i + 1) (length line)) (sym (m .1)) p in
+        subst (λ n. Length (f .token) (f .start) n (length line)) (sym (m .2)) q;
+    within = omega (arith, m .2);
+  },
+  m .1,
+)
 
 one-byte : (line : List ℕ) (i : ℕ) → i < length line → take (i + 1 - i) (drop i line) ≡ getD line i 0 ∷ []
 one-byte line i h = let n : i + 1 - i ≡ suc zero = omega arith in ap (λ n. take n (drop i line)) n ∙ ap (λ l. take (suc zero) l) (drop-here line i h)
 
 pub run-token-requires : need.run-token-requires
 run-token-requires c κs =
-    let v = c .kind-at .ensures .value in
-    (c .pre .0, elim (c .in-Small .is) [
-      | inl e ↦ subst (λ k. RunKind k) (sym e ∙ v) small-begins
-      | inr d ↦ elim d [
-        | inl e ↦ subst (λ k. RunKind k) (sym e ∙ v) capital-begins
-        | inr e ↦ subst (λ k. RunKind k) (sym e ∙ v) digit-begins
-      ]
-    ])
+    let v = c .kind-at .ensures .value in (
+      c .pre .0,
+      elim (c .in-Small .is) [
+        | inl e ↦ subst (λ k. RunKind k) (sym e ∙ v) small-begins
+        | inr d ↦ elim d [
+          | inl e ↦ subst (λ k. RunKind k) (sym e ∙ v) capital-begins
+          | inr e ↦ subst (λ k. RunKind k) (sym e ∙ v) digit-begins
+        ]
+      ],
+    )
 
 pub returns-in-Solo : need.returns-in-Solo
 returns-in-Solo c =
@@ -90,4 +94,3 @@ pub returns-in-Stop : need.returns-in-Stop
 returns-in-Stop c =
     marked (c .args .line .now) (c .args .start) Stop code.Stop spec.stop (c .mark-in-Stop .result) (c .pre .0)
     (c .in-Stop .ensures tt .value) refl refl tt (omega arith) (c .mark-in-Stop .ensures)
-

@@ -1,0 +1,11 @@
+pub mod OpsProperties
+pub mod BlameProperties
+pub mod ByteSteps
+pub mod TokenKinds
+pub mod FoundTokens
+pub mod BracketSteps
+pub mod ListSteps
+pub mod CommaSteps
+pub mod LineFaults
+pub mod NeckSteps
+pub mod LineSteps
