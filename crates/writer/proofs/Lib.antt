@@ -5,3 +5,4 @@ pub mod PiecesProperties
 pub mod RunProperties
 pub mod NodeProperties
 pub mod ReadsBackProperties
+pub mod ShownExamples

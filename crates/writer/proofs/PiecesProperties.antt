@@ -1,24 +1,21 @@
 -- A term's text is what stands before the arguments, the arguments, and what stands behind them.
-use mathlib.Core.Path.{_≡_, refl, sym, ap, _∙_, subst}
-use mathlib.Core.Bool.{Bool, true, false, cond, not, _&&_, _||_}
+use mathlib.Core.Path.{_≡_, refl, sym, ap, _∙_}
+use mathlib.Core.Bool.{Bool, true, false, cond}
 use mathlib.Core.List.{List, [], _∷_, _++_, append-nil, append-assoc}
-use mathlib.Core.Logic.{_⊎_, inl, inr}
-use Prim.Native.Nat.{ℕ, suc, _+_, _<_, _≤_}
+use Prim.Native.Nat.{ℕ, _+_}
 use native.Mathlib.Omega.{arith}
-use lib.Chars.{codes}
 use lib.Dec.{eqb}
-use lib.ListN.{length}
-use Rattle.std.proofs.shelf.Tests.{cases-bool, ne-eqb, eq-eqb}
+use Rattle.std.proofs.shelf.Tests.{ne-eqb}
 use Rattle.terms.specs.Known.{commaName, dotName, emptyName}
 use Rattle.tokens.specs.Bytes.{same}
 use Rattle.grammar.specs.Written as written
 use Rattle.writing.specs.Writing as writing
-use Rattle.writing.specs.Writing.{placed, formText, form, others, textAt, argumentsText, bare, nameText}
+use Rattle.writing.specs.Writing.{placed, formText, others, textAt, argumentsText, nameText}
 use Rattle.writer.specs.declared.piece.Spot.{Spot}
 use Rattle.writer.specs.declared.piece.Spot.the-variants.{Alone, Argument, InList, InConjunction}
 use Rattle.writer.specs.declared.piece.Form.{Form}
 use Rattle.writer.specs.declared.piece.Form.the-variants.{Constant, Empty, List as AList, Conjunction, Plain}
-use Rattle.writer.specs.Pieces.{spotOf, shapeOf, formOf, othersSpot, openingText, closingText, spotBefore, spotAfter, smallWord, symbolName, soloName}
+use Rattle.writer.specs.Pieces.{spotOf, formOf, othersSpot, openingText, closingText, spotBefore, spotAfter}
 
 pub placed-parts : (p : Spot) (s : List ℕ) → (spotBefore p ++ s) ++ spotAfter p ≡ placed (spotOf p) s
 placed-parts Alone s = append-nil s
@@ -99,11 +96,3 @@ app-parts p f (written.cons t (written.cons u (written.cons v vs))) n e =
     ap (λ k. partsAs p k f (written.cons t (written.cons u (written.cons v vs))))
     (plain-form f n (λ z. omega arith) (λ z. omega arith))
     ∙ sym (plain-parts p f (argumentsText writing.argument (written.cons t (written.cons u (written.cons v vs)))))
-
-pub bare-kinds : (a : List ℕ) → bare a ≡ (smallWord a || symbolName a || soloName a)
-bare-kinds [] = refl
-bare-kinds (c ∷ s) = go (smallWord (c ∷ s) || symbolName (c ∷ s)) (same (c ∷ s) (codes ";")) (same (c ∷ s) (codes "!"))
-  where
-    go : (x y z : Bool) → (x || y || z) ≡ (x || (y || z))
-    go true y z = refl
-    go false y z = refl

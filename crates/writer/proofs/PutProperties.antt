@@ -1,14 +1,12 @@
 -- Writing one text and then another, and failing in between.
 use mathlib.Core.Path.{_≡_, refl, sym, ap, _∙_, subst}
-use mathlib.Core.Bool.{true, false, cond}
+use mathlib.Core.Bool.{true, false}
 use mathlib.Core.List.{List, [], _∷_, _++_, append-nil, append-assoc}
-use mathlib.Core.Logic.{_⊎_, inl, inr}
 use Prim.Native.Nat.{ℕ, _+_, _<_, _≤_}
 use native.Mathlib.Omega.{arith}
-use lib.Dec.{leb}
 use lib.ListN.{length, take}
 use Rattle.std.proofs.shelf.Lists.{length-append, length-take, take-all, take-at, take-take}
-use Rattle.std.proofs.shelf.Tests.{leb-true, leb-false, le-leb, lt-leb, true≢false, false≢true}
+use Rattle.std.proofs.shelf.Tests.{leb-false, le-leb, lt-leb, false≢true}
 use Rattle.std.specs.Results.{isErr}
 use Rattle.std.specs.Of.Vec.{vec-len}
 use Rattle.std.specs.declared.result.Result.{Result}

@@ -1,22 +1,25 @@
 -- Every term is shown with variables and integers that read as such, so that only its brackets count.
-use mathlib.Core.Path.{_≡_, refl, sym, ap, _∙_}
+use mathlib.Core.Path.{_≡_, refl, ap, _∙_}
 use mathlib.Core.Bool.{Bool, true, false, cond, _&&_, _||_}
-use mathlib.Core.List.{List, [], _∷_}
-use Prim.Native.Nat.{ℕ, zero, suc, _+_, _%_, _/_, _<_, _≤_, max}
+use mathlib.Core.List.{List, [], _∷_, _++_}
+use lib.Chars.{codes}
+use Prim.Native.Nat.{ℕ, zero, suc, _+_, _%_, _/_, _<_, _≤_}
 use native.Mathlib.Omega.{arith}
-use lib.Dec.{eqb, ltb, leb}
+use lib.Dec.{eqb, leb}
 use lib.IntN.{ℤ, pos, negsuc}
 use Rattle.std.specs.Written as std
 use Rattle.std.proofs.shelf.Tests.{and-from, and-parts, or-left, or-right, le-leb, lt-ltb}
 use Rattle.tokens.specs.Bytes.{small, capital, digit, word}
 use Rattle.terms.specs.Term.{Term, Terms, var, int, app, nil, cons}
-use Rattle.grammar.specs.Written.{Written, Writtens}
-use Rattle.writing.specs.Writing.{all, Form, Spot, alone, form, others}
+use Rattle.grammar.specs.Written.{Writtens}
+use Rattle.writing.specs.Writing.{all, Spot, alone, form, others}
 use Rattle.writing.specs.ReadBack.{isVariable, isDigits, isInteger, opens, room, inside, readableAt, argumentsReadable, othersReadable}
-use Rattle.writing.proofs.ReadBackProperties.{query-reads-back}
-use Rattle.grammar.specs.Grammar.{brackets}
-use Rattle.writer.specs.Shown.{decimal, integerText, variableText, placeIn, firsts, asWritten, allAsWritten}
-use Rattle.writer.specs.ReadsBack.{depthAt, argumentsDepth, othersDepth, ShownReadsBack}
+use Rattle.writing.proofs.ReadBackProperties.{query-reads-back, fact-reads-back, rule-reads-back}
+use Rattle.grammar.specs.Grammar.{brackets, a-rule}
+use Rattle.grammar.specs.Theorem.{judged}
+use Rattle.writer.specs.Shown.{decimal, integerText, variableText, placeIn, firsts, asWritten, allAsWritten, shown}
+use Rattle.writer.proofs.ShownProperties.{shown-before}
+use Rattle.writer.specs.ReadsBack.{depthAt, argumentsDepth, othersDepth, ruleSeen, QueryReadsBack, FactReadsBack, RuleReadsBack}
 
 digit-glyph : (d : ℕ) → d < 10 → digit (std.glyph false d) ≡ true
 digit-glyph d l =
@@ -106,5 +109,15 @@ mutual
       and-from (readableAt q n (asWritten seen t)) (othersReadable q n (allAsWritten seen ts))
       (readable-shown seen t q n (omega arith)) (others-shown seen ts q n (omega arith))
 
-pub shown-reads-back : ShownReadsBack
-shown-reads-back t l = query-reads-back (asWritten (firsts [] t) t) (readable-shown (firsts [] t) t alone brackets l)
+pub query-shown : QueryReadsBack
+query-shown t l = query-reads-back (asWritten (firsts [] t) t) (readable-shown (firsts [] t) t alone brackets l)
+
+pub fact-shown : FactReadsBack
+fact-shown h l = fact-reads-back (asWritten (firsts [] h) h) (readable-shown (firsts [] h) h alone brackets l)
+
+pub rule-shown : RuleReadsBack
+rule-shown h b k l =
+    let seen = ruleSeen h b in
+    ap (λ s. judged a-rule (s ++ codes " :- " ++ shown (firsts [] h) b ++ codes ".")) (shown-before [] h b)
+    ∙ rule-reads-back (asWritten seen h) (asWritten seen b) (readable-shown seen h alone brackets k)
+    (readable-shown seen b alone brackets l)

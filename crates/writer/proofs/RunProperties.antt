@@ -1,22 +1,20 @@
 -- Tests of all bytes of a name, and doubled quotes, one byte after another.
 use mathlib.Core.Path.{_≡_, refl, sym, ap, _∙_}
-use mathlib.Core.Bool.{Bool, true, false, cond, not, _&&_, _||_}
-use mathlib.Core.List.{List, [], _∷_, _++_, append-assoc}
-use Prim.Native.Nat.{ℕ, suc, _+_, _<_, _≤_}
-use mathlib.Core.Logic.{_⊎_, inl, inr}
+use mathlib.Core.Bool.{Bool, true, false, cond, _&&_}
+use mathlib.Core.List.{List, [], _∷_, _++_}
+use Prim.Native.Nat.{ℕ, _+_, _<_, _≤_}
+use mathlib.Core.Logic.{inl, inr}
 use native.Mathlib.Omega.{arith}
 use lib.Dec.{ltb}
 use Rattle.std.specs.declared.option.Option.the-variants.{Some, None}
 use Rattle.std.proofs.shelf.Tests.{cases-bool, ltb-false}
 use Rattle.names.specs.Listed.{nameAt}
 use lib.ListN.{length, getD, drop, take}
-use Rattle.std.proofs.shelf.Equals.{Compares, compares-decides}
+use Rattle.std.proofs.shelf.Equals.{compares-decides}
 use Rattle.std.proofs.shelf.Lists.{at-drop-more, at-drop-all, take-more, getD-past, take-append-drop, length-append}
 use Rattle.std.specs.Orderings.{Decides}
-use Rattle.tokens.specs.Bytes.{small, capital, digit, word, symbol, quote, same}
-use Rattle.tokens.specs.Token.{neckBytes}
+use Rattle.tokens.specs.Bytes.{quote, same}
 use Rattle.writing.specs.Writing.{all, doubled}
-use Rattle.writer.specs.Pieces.{smallWord, symbolName}
 
 pub all-goes : (f : ℕ → Bool) (xs : List ℕ) (i : ℕ) → i < length xs → f (getD xs i 0) ≡ true
     → all f (drop (i + 1) xs) ≡ all f (drop i xs)
@@ -29,31 +27,6 @@ all-stops f xs i l e = at-drop-more (all f) xs i 0 l ∙ ap (λ b. b && all f (d
 
 pub all-end : (f : ℕ → Bool) (xs : List ℕ) (i : ℕ) → length xs ≤ i → all f (drop i xs) ≡ true
 all-end f xs i l = at-drop-all (all f) xs i l
-
-pub smallWord-all : (xs : List ℕ) → 0 < length xs → small (getD xs 0 0) ≡ true → all word xs ≡ smallWord xs
-smallWord-all [] l e = absurd (omega arith)
-smallWord-all (c ∷ s) l e =
-    ap (λ b. (b || (capital c) || (digit c)) && all word s) e ∙ sym (ap (λ b. b && all word s) e)
-
-pub smallWord-no : (xs : List ℕ) → small (getD xs 0 0) ≡ false → smallWord xs ≡ false
-smallWord-no [] e = refl
-smallWord-no (c ∷ s) e = ap (λ b. b && all word s) e
-
-pub symbolName-all : (xs : List ℕ) → 0 < length xs → same xs neckBytes ≡ false → all symbol xs ≡ symbolName xs
-symbolName-all [] l e = absurd (omega arith)
-symbolName-all (c ∷ s) l e = go (all symbol (c ∷ s)) ∙ ap (λ b. all symbol (c ∷ s) && not b) (sym e)
-  where
-    go : (b : Bool) → b ≡ (b && true)
-    go true = refl
-    go false = refl
-
-pub symbolName-no : (xs : List ℕ) → same xs neckBytes ≡ true → symbolName xs ≡ false
-symbolName-no [] e = refl
-symbolName-no (c ∷ s) e = ap (λ b. all symbol (c ∷ s) && not b) e ∙ go (all symbol (c ∷ s))
-  where
-    go : (b : Bool) → (b && false) ≡ false
-    go true = refl
-    go false = refl
 
 pub doubled-append : (xs ys : List ℕ) → doubled (xs ++ ys) ≡ doubled xs ++ doubled ys
 doubled-append [] ys = refl

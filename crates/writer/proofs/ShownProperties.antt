@@ -2,7 +2,7 @@
 use mathlib.Core.Path.{_≡_, refl, sym, ap, _∙_}
 use mathlib.Core.Bool.{Bool, true, false, cond}
 use mathlib.Core.List.{List, [], _∷_, _++_, append-nil, append-assoc}
-use mathlib.Core.Logic.{_⊎_, inl, inr}
+use mathlib.Core.Logic.{inl, inr}
 use Prim.Native.Nat.{ℕ, suc, _+_, _<_, _≤_}
 use native.Mathlib.Omega.{arith}
 use lib.Dec.{eqb, ltb}
@@ -10,20 +10,12 @@ use lib.IntN.{ℤ, pos, negsuc, natAbs}
 use lib.ListN.{length, getD, drop}
 use lib.Signed.{leZ}
 use Rattle.std.proofs.shelf.Lists.{at-drop-more, at-drop-all}
-use Rattle.std.proofs.shelf.Tests.{cases-bool, eqb-true, eqb-false, eq-eqb, ne-eqb, ltb-true, ltb-false, lt-ltb, le-ltb, leb-false}
+use Rattle.std.proofs.shelf.Tests.{cases-bool, eq-eqb, ne-eqb, ltb-true, ltb-false, lt-ltb, le-ltb, leb-false}
 use Rattle.terms.specs.Term.{Term, Terms, var, int, app, nil, cons}
 use Rattle.grammar.specs.Written as written
 use Rattle.writing.specs.Writing.{text}
-use Rattle.writer.specs.Shown.{placeIn, variableText, withVariable, firsts, firstsAll, asWritten, allAsWritten, shown, integerText, decimal}
+use Rattle.writer.specs.Shown.{placeIn, withVariable, firsts, firstsAll, asWritten, allAsWritten, shown, integerText, decimal}
 use Rattle.writer.specs.Numbered.{numbered, allNumbered}
-
-pub placeIn-le : (xs : List ℕ) (v : ℕ) → placeIn xs v ≤ length xs
-placeIn-le [] v = omega arith
-placeIn-le (x ∷ xs) v = go (eqb x v) (placeIn-le xs v)
-  where
-    go : (b : Bool) → placeIn xs v ≤ length xs → cond b 0 (suc (placeIn xs v)) ≤ suc (length xs)
-    go true l = omega arith
-    go false l = omega arith
 
 pub placeIn-goes : (xs : List ℕ) (v i : ℕ) → i < length xs → (getD xs i 0 ≡ v → ⊥)
     → (i + 1) + placeIn (drop (i + 1) xs) v ≡ i + placeIn (drop i xs) v
@@ -123,6 +115,13 @@ mutual
 pub numbered-shown : (xs : List ℕ) (t : Term) → text (numbered xs t) ≡ shown xs t
 numbered-shown xs t =
     ap text (numbered-seen xs t [] ∙ ap (λ s. asWritten s t) (append-nil (firsts xs t)))
+
+-- the text of a term is the same with the variables of one more term behind it
+pub shown-before : (xs : List ℕ) (t u : Term) → shown xs t ≡ text (asWritten (firsts (firsts xs t) u) t)
+shown-before xs t u =
+    let l = firsts-longer (firsts xs t) u in
+    sym (numbered-shown xs t)
+    ∙ ap text (numbered-seen xs t (l .more) ∙ ap (λ s. asWritten s t) (sym (l .is)))
 
 pub withVariable-new : (xs : List ℕ) (v : ℕ) → length xs ≤ placeIn xs v → xs ++ v ∷ [] ≡ withVariable xs v
 withVariable-new xs v l = ap (λ b. cond b xs (xs ++ v ∷ [])) (sym (le-ltb (placeIn xs v) (length xs) l))

@@ -2,7 +2,6 @@
 -- What stands before the arguments, the arguments, and what stands behind them make the text.
 use borrow.Author.Needs.{needs}
 use mathlib.Core.Path.{_≡_, refl, sym, ap, subst, _∙_}
-use mathlib.Core.List.{_++_}
 use Prim.Native.Nat.{ℕ, _+_, _<_, _≤_}
 use native.Mathlib.Omega.{arith}
 use lib.ListN.{length, getD}
@@ -12,7 +11,6 @@ use Rattle.std.proofs.shelf.Signed.{toZ-ofZ}
 use Rattle.std.specs.declared.result.Result.the-variants.{Ok}
 use Rattle.names.specs.View.{list}
 use Rattle.terms.specs.declared.node.Node.the-variants.{Var, Int, App}
-use Rattle.terms.specs.Places.{noNode}
 use Rattle.terms.specs.Rows.{meanings, meaning}
 use Rattle.terms.specs.RowViews.{rowNodes}
 use Rattle.terms.proofs.RowsProperties.{app-arity}

@@ -1,13 +1,10 @@
 -- An argument stands before its node, so that the places fall; after k turns what stands before the arguments
 -- and the first k of them are written.
-use mathlib.Core.Path.{_≡_}
-use mathlib.Core.List.{_++_}
 use Rattle.std.specs.declared.result.Result.the-variants.{Ok}
 use Rattle.names.specs.View.{list}
 use Rattle.terms.specs.Rows.{meanings}
 use Rattle.terms.specs.RowViews.{rowNodes}
 use Rattle.writer.specs.Lines.{lineSeen, Puts}
-use Rattle.writer.specs.Pieces.{openingText}
 use Rattle.writer.proofs.NumberedProperties.{partText, partSeen}
 use Rattle.writer.proofs.line.LineWriter.+node.Given as given
 

@@ -1,6 +1,5 @@
 -- One byte more, with its quote doubled.
 use mathlib.Core.Path.{refl, ap}
-use native.Mathlib.Omega.{arith}
 use Rattle.std.proofs.shelf.Lists.{take-all}
 use Rattle.writing.specs.Writing.{doubled}
 use Rattle.writer.specs.Lines.{lineSeen}

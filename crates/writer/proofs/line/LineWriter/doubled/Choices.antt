@@ -1,5 +1,4 @@
 -- After i turns the first i bytes are written, with their quotes doubled.
-use mathlib.Core.Path.{_≡_}
 use lib.ListN.{take}
 use Rattle.std.specs.declared.result.Result.the-variants.{Ok}
 use Rattle.writing.specs.Writing.{doubled}

@@ -1,5 +1,5 @@
 -- The variable between what its spot asks for.
-use mathlib.Core.Path.{_≡_, refl, ap}
+use mathlib.Core.Path.{refl, ap}
 use Rattle.writer.specs.Lines.{lineSeen}
 use Rattle.writer.specs.Pieces.{spotAfter}
 use Rattle.writer.specs.Shown.{variableText, withVariable}

@@ -1,6 +1,6 @@
 -- What was written stays, or all that was added goes.
-use mathlib.Core.Path.{_≡_, sym, ap, _∙_}
-use lib.ListN.{length, take}
+use mathlib.Core.Path.{ap, _∙_}
+use lib.ListN.{take}
 use Rattle.writer.specs.Lines.{lineBytes, lineSeen}
 use Rattle.writer.proofs.PutProperties.{puts-ok, puts-err}
 use Rattle.writer.proofs.line.LineWriter.term.Needs as need

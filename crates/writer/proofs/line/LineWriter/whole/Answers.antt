@@ -1,5 +1,5 @@
 -- Outside the row stands the number 0; inside it, variables are numbered as they come.
-use mathlib.Core.Path.{refl, sym, ap, _∙_}
+use mathlib.Core.Path.{refl, sym, ap}
 use native.Mathlib.Omega.{arith}
 use Rattle.names.specs.View.{list}
 use Rattle.terms.specs.Rows.{meaning}

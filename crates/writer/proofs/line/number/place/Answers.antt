@@ -1,5 +1,5 @@
 -- The variable stands at the turn, or its place is sought among those after it.
-use mathlib.Core.Path.{sym, _∙_}
+use mathlib.Core.Path.{_∙_}
 use native.Mathlib.Omega.{arith}
 use Rattle.writer.proofs.ShownProperties.{placeIn-goes, placeIn-stops, placeIn-end}
 use Rattle.writer.proofs.line.number.place.Needs as need

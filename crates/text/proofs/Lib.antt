@@ -1,0 +1,12 @@
+mod PartsProperties
+mod UndoubleProperties
+mod IntegersProperties
+mod NumberingProperties
+mod StacksProperties
+mod EnteredProperties
+mod MeaningsProperties
+mod BuiltProperties
+mod RunsProperties
+mod RulesProperties
+mod FinishingProperties
+mod ReadersProperties

@@ -1,0 +1,9 @@
+pub mod Integers
+pub mod Numbering
+pub mod Limits
+pub mod Building
+pub mod Builders
+pub mod Rules
+pub mod Faults
+pub mod Finishing
+pub mod Readers
