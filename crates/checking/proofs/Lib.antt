@@ -1,0 +1,2 @@
+pub mod LinesProperties
+pub mod CheckedProperties
