@@ -1,0 +1,3 @@
+pub mod MeaningProperties
+pub mod LawsProperties
+mod WalkProperties

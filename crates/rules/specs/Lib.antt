@@ -1,0 +1,4 @@
+pub mod Indicators
+pub mod Meaning
+pub mod Calls
+pub mod Laws

@@ -1,0 +1,3 @@
+mod EntriesProperties
+mod RowsProperties
+mod ViewsProperties
