@@ -10,10 +10,9 @@ ghost use Rattle.rules.specs.declared.indicator.Indicator.{Indicator};
 ghost use Rattle.rules.specs.Meaning.{everAdded, nextIn};
 ghost use Rattle.chainstore.specs.Entries.{rowOf, valuesOf, laid};
 ghost use Rattle.chainstore.specs.Rings.{headOf, cellOf, isIn, afterAt, beforeAt, backward};
-pub use calls::ChainStoreRules;
-
 use crate::entry::Entry;
 use crate::entry::Link;
+pub use calls::ChainStoreRules;
 use terms::Node;
 
 mod calls;

@@ -58,7 +58,10 @@ fn tell_rule<W: Write>(out: &mut W, answer: Option<Stored<'_>>) -> Result<(), An
             let head = rule.head;
             let body = rule.body;
             let variables = rule.variables;
-            writeln!(out, " {name}/{arity} of {nodes} nodes, {head} {body} {variables}")?;
+            writeln!(
+                out,
+                " {name}/{arity} of {nodes} nodes, {head} {body} {variables}"
+            )?;
         }
         None => writeln!(out, " none")?,
     }
@@ -76,7 +79,12 @@ fn rule_of(nodes: &[Node], indicator: Indicator, size: u32) -> Rule<'_> {
     }
 }
 
-fn obey<S: RuleStore, W: Write>(store: &mut S, call: Call, nodes: &[Node], out: &mut W) -> Result<(), AnyError> {
+fn obey<S: RuleStore, W: Write>(
+    store: &mut S,
+    call: Call,
+    nodes: &[Node],
+    out: &mut W,
+) -> Result<(), AnyError> {
     match call {
         Call::AddFront(indicator, size) => {
             tell_call(out, "front", indicator)?;
@@ -115,7 +123,11 @@ fn obey<S: RuleStore, W: Write>(store: &mut S, call: Call, nodes: &[Node], out: 
     }
 }
 
-fn replay<S: RuleStore, W: Write>(store: &mut S, nodes: &[Node], out: &mut W) -> Result<(), AnyError> {
+fn replay<S: RuleStore, W: Write>(
+    store: &mut S,
+    nodes: &[Node],
+    out: &mut W,
+) -> Result<(), AnyError> {
     let mut script = Script::new();
     for _ in 0..CALLS {
         if let Some(call) = script.next_call() {

@@ -27,15 +27,21 @@ impl Script {
 
     // A number below `bound`, or 0 if that is 0.
     fn draw(&mut self, bound: u32) -> u32 {
-        self.state = self.state.wrapping_mul(1_664_525).wrapping_add(1_013_904_223);
-        if bound == 0 { 0 } else { (self.state >> 16) % bound }
+        self.state = self.state
+            .wrapping_mul(1_664_525)
+            .wrapping_add(1_013_904_223);
+        if bound == 0 {
+            0
+        } else {
+            (self.state >> 16) % bound
+        }
     }
 
     // One of four indicators.
     fn indicator(&mut self) -> Option<Indicator> {
-        let name = self.draw(2) * 511;
-        let arity = self.draw(2) * 8;
-        Indicator::new((name & 0xffff) as u16, (arity & 0xff) as u8)
+        let name = if self.draw(2) == 0 { 0 } else { 511 };
+        let arity = if self.draw(2) == 0 { 0 } else { 8 };
+        Indicator::new(name, arity)
     }
 
     pub fn next_call(&mut self) -> Option<Call> {
@@ -43,14 +49,16 @@ impl Script {
         let indicator = self.indicator()?;
         let label = self.draw(520);
         let size = self.draw(16);
-        Some(match kind {
-            0..=2 => Call::AddFront(indicator, size),
-            3..=6 => Call::AddBack(indicator, size),
-            7 | 8 => Call::First(indicator),
-            9 | 10 => Call::After(indicator, label),
-            11 | 12 => Call::Read(label),
-            13 | 14 => Call::Erase(label),
-            _ => Call::Known(indicator),
-        })
+        Some(
+            match kind {
+                0..=2 => Call::AddFront(indicator, size),
+                3..=6 => Call::AddBack(indicator, size),
+                7 | 8 => Call::First(indicator),
+                9 | 10 => Call::After(indicator, label),
+                11 | 12 => Call::Read(label),
+                13 | 14 => Call::Erase(label),
+                _ => Call::Known(indicator),
+            },
+        )
     }
 }
