@@ -99,7 +99,7 @@ def names():
 def library():
     """What the repository takes from the standard library, by its names there."""
     words = set()
-    for path in code_files() + glob.glob("crates/*/src/*.rt"):
+    for path in code_files() + glob.glob("crates/*/src/**/*.rt", recursive=True):
         for m in re.finditer(r"Rattle\.std\.[\w.]*\.\{([^}]*)\}", open(path, encoding="utf-8").read()):
             for w in m[1].split(","):
                 words.update(w.split())
@@ -161,7 +161,7 @@ def main():
         print(len(rows), "names; made by the toolchain:", sorted(set(rows) & made))
         return
     inner = {k: v for k, v in rows.items() if re.search(r"[a-z][A-Z]", k)}
-    for path in code_files() + sorted(glob.glob("crates/*/src/*.rt") + glob.glob("crates/*/must-fail/*.edit")):
+    for path in code_files() + sorted(glob.glob("crates/*/src/**/*.rt", recursive=True) + glob.glob("crates/*/must-fail/*.edit")):
         text = open(path, encoding="utf-8").read()
         mark = "--" if path.endswith(".antt") else "//"
         if path.endswith(".edit"):

@@ -1,5 +1,7 @@
 //! Arithmetic on integers of 32 bits: the functions that evaluate, the comparisons, and their laws.
 
+#![tactic(auto)]
+
 pub mod comparison;
 pub mod function;
 pub mod laws;

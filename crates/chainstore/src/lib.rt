@@ -1,5 +1,7 @@
 //! A rule store that keeps a ring of links for each indicator: its calls take constant time, apart from copying nodes.
 
+#![tactic(auto)]
+
 pub mod chain;
 mod entry;
 mod links;

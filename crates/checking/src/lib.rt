@@ -1,5 +1,7 @@
 //! Checking rules line by line: what is said of each line of an owner's file.
 
+#![tactic(auto)]
+
 pub mod checker;
 pub mod line;
 pub mod refusal;

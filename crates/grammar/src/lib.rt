@@ -1,5 +1,7 @@
 //! The grammar of rules and queries, and what is proved of it.
 
+#![tactic(auto)]
+
 ghost use Rattle.grammar.specs.Theorem.{Exact, OneSentence, AllRead};
 
 // The reader of bytes that the definitions give is right about every text: it reads exactly the texts of the

@@ -1,5 +1,7 @@
 //! The table of names of a Prolog engine: each name is stored once, and is spoken of by its number.
 
+#![tactic(auto)]
+
 mod fault;
 mod names;
 

@@ -1,5 +1,7 @@
 //! What the writer writes, the reader reads back as the same term.
 
+#![tactic(auto)]
+
 ghost use Rattle.readback.specs.ReadBack.{IntegerReadsBack, QueryReadsBack, FactReadsBack, RuleReadsBack};
 ghost use Rattle.readback.specs.Renaming.{NumberedInOrder, NumberedOnce, NothingLost, SameText, HeadAndBodyAlike};
 

@@ -1,5 +1,7 @@
 //! The recursive reader: from the bytes of a rule or query to a row of building steps, or to the fault.
 
+#![tactic(auto)]
+
 pub mod fault;
 pub mod op;
 pub mod sentence;

@@ -1,5 +1,7 @@
 //! Replays one long script of calls on a store of each make, and prints every answer.
 
+#![tactic(auto)]
+
 mod script;
 
 use anyhow::anyhow;

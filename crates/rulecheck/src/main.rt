@@ -1,6 +1,8 @@
 //! Checks a file of rules on standard input, one rule a line, and prints each as the engine understands it,
 //! or why it is refused.
 
+#![tactic(auto)]
+
 use anyhow::anyhow;
 use checking::{LineBuffer, Refusal, RuleChecker};
 use std::env;

@@ -1,5 +1,7 @@
 //! What a rule store means, the trait of rule stores, and what follows for every store.
 
+#![tactic(auto)]
+
 pub mod indicator;
 pub mod laws;
 pub mod rule;

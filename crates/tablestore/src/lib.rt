@@ -1,5 +1,7 @@
 //! A rule store that walks one table.
 
+#![tactic(auto)]
+
 mod change;
 mod entry;
 mod find;

@@ -1,5 +1,7 @@
 //! Terms as rows of nodes: each argument stands before the node that uses it.
 
+#![tactic(auto)]
+
 pub mod copy;
 pub mod known;
 pub mod node;

@@ -1,5 +1,7 @@
 //! Rules and queries from their texts: read by the grammar, within the limits, as rows of nodes.
 
+#![tactic(auto)]
+
 pub mod answer;
 mod builder;
 pub mod fault;

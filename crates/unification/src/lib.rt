@@ -1,5 +1,7 @@
 //! Unification of terms, bindings and canonical copies: their laws, as contracts.
 
+#![tactic(auto)]
+
 ghost use Rattle.unification.specs.Theorem.{Lawful, Usable, Canonical};
 
 // The bindings found make both terms the same, and every unifier agrees with them; where none is found there is none.

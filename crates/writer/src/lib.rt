@@ -1,5 +1,7 @@
 //! Writes terms to lines of bytes, with variables numbered in the order in which they appear.
 
+#![tactic(auto)]
+
 ghost use Rattle.writer.specs.ReadsBack.{QueryReadsBack, FactReadsBack, RuleReadsBack};
 
 mod fault;

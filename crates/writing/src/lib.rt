@@ -1,5 +1,7 @@
 //! How terms are written, and what is proved of it.
 
+#![tactic(auto)]
+
 ghost use Rattle.writing.specs.Quoting.{BareNamesRead, OthersNeedQuotes};
 ghost use Rattle.writing.specs.ReadBack.{QueryReadsBack, FactReadsBack, RuleReadsBack};
 

@@ -2,9 +2,9 @@
 
 ghost use Rattle.std.specs.Prelude.{◌≡◌, ◌+◌, ◌<◌, ◌≤◌, length, take, drop};
 ghost use Rattle.rules.specs.Meaning.{holds};
-ghost use Rattle.chainstore.specs.Entries.{isLiveOf, row_of};
+ghost use Rattle.chainstore.specs.Entries.{is_live_of, row_of};
 ghost use Rattle.chainstore.specs.Rings.{after_at, label_of};
-ghost use Rattle.chainstore.specs.Views.{meaningOf, entriesOf, linksOf};
+ghost use Rattle.chainstore.specs.Views.{meaning_of, entries_of, links_of};
 
 use crate::chain::ChainStore;
 use crate::entry::{Entry, Side};
@@ -13,7 +13,7 @@ use rules::{Full, Indicator, Rule, RuleStore, Stored};
 use terms::Node;
 
 impl RuleStore for ChainStore {
-    ghost meaning = { meaningOf };
+    ghost meaning = { meaning_of };
 
     fn add_front(&mut self, rule: Rule<'_>) -> Result<u32, Full> {
         self.add(rule, Side::Front)
@@ -68,8 +68,8 @@ impl RuleStore for ChainStore {
 impl ChainStore {
     // The label behind a cell; none if the head follows.
     fn label_after(&self, cell: u32) -> Option<u32>
-        requires { cell < length (linksOf self.now) }
-        ensures { result ≡ label_of (after_at (linksOf self.now) cell) }
+        requires { cell < length (links_of self.now) }
+        ensures { result ≡ label_of (after_at (links_of self.now) cell) }
     {
         label_of(self.links[cell as usize].after)
     }
@@ -77,7 +77,7 @@ impl ChainStore {
     // Whether the label stands in the row of this indicator.
     fn is_live(&self, label: u32, indicator: Indicator) -> bool
         ensures { result
-            ≡ holds label (row_of (entriesOf self.now) indicator.name indicator.arity) }
+            ≡ holds label (row_of (entries_of self.now) indicator.name indicator.arity) }
     {
         if (label as usize) < self.entries.len() {
             is_live_of(self.entries[label as usize], indicator)
@@ -89,7 +89,7 @@ impl ChainStore {
 
 // Whether this is the entry of a live rule of this indicator.
 fn is_live_of(entry: Entry, indicator: Indicator) -> bool
-    ensures { result ≡ isLiveOf entry indicator.name indicator.arity }
+    ensures { result ≡ is_live_of entry indicator.name indicator.arity }
 {
     entry.live
         && entry.indicator.name() == indicator.name()

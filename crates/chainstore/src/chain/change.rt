@@ -4,7 +4,7 @@ ghost use Rattle.std.specs.Prelude.{◌≡◌, ◌+◌, ◌<◌, ◌≤◌, ◌+
 ghost use Rattle.rules.specs.Calls.{Adds, value_of};
 ghost use Rattle.chainstore.specs.Entries.{end_of};
 ghost use Rattle.chainstore.specs.Rings.{besides, InsertedAt};
-ghost use Rattle.chainstore.specs.Views.{meaningOf};
+ghost use Rattle.chainstore.specs.Views.{meaning_of};
 
 use crate::chain::ChainStore;
 use crate::entry::{Entry, Link, Side};
@@ -15,8 +15,8 @@ use terms::Node;
 impl ChainStore {
     // Adds the rule at one end of its row. Full, changing nothing, if it has no room.
     pub(super) fn add(&mut self, rule: Rule<'_>, side: Side) -> Result<u32, Full>
-        ensures { Adds (end_of side) (meaningOf self.old) (value_of rule.entry) result
-            (meaningOf self.new) }
+        ensures { Adds (end_of side) (meaning_of self.old) (value_of rule.entry) result
+            (meaning_of self.new) }
     {
         if self.entries.len() >= self.labels || rule.nodes.len() > self.space - self.nodes.len() {
             return Err(Full);

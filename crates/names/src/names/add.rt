@@ -1,7 +1,7 @@
 //! One name more.
 
 ghost use Rattle.std.specs.Prelude.{◌≡◌, ◌+◌, ◌<◌, ◌≤◌, [], ◌∷◌, ◌++◌, length, IfOk, Some, None, vec_len, vec_capacity};
-ghost use Rattle.names.specs.Interned.{interned, listAfter};
+ghost use Rattle.names.specs.Interned.{interned, list_after};
 ghost use Rattle.names.specs.Listed.{Extends, name_at, place_of, total};
 ghost use Rattle.names.specs.View.{list};
 
@@ -25,7 +25,7 @@ impl Names {
     // The number of the name, which is added at the end if it is not yet in the table. The names before it keep theirs.
     pub fn intern(&mut self, name: &[u8]) -> Result<u16, NameFault>
         ensures value { result ≡ interned (list self.old) name.now }
-        ensures after { list self.new ≡ listAfter (list self.old) name.now }
+        ensures after { list self.new ≡ list_after (list self.old) name.now }
         ensures kept { Extends (list self.old) (list self.new) }
         ensures holds { IfOk result (λ place. name_at (list self.new) place ≡ Some name.now) }
     {

@@ -2,8 +2,8 @@
 
 ghost use Rattle.std.specs.Prelude.{◌≡◌, ◌≤◌, min, [], take, IfOk};
 ghost use Rattle.terms.specs.Rows.{all_below, fitting};
-ghost use Rattle.terms.specs.Places.{placeFor, withNode};
-ghost use Rattle.terms.specs.RowViews.{rowNodes, rowLimit};
+ghost use Rattle.terms.specs.Places.{place_for, with_node};
+ghost use Rattle.terms.specs.RowViews.{row_nodes, row_limit};
 
 use crate::known::MAX_ARGUMENTS;
 use crate::node::Node;
@@ -16,7 +16,7 @@ const MOST: usize = 65536;
 impl Row {
     // An empty row for at most `limit` nodes, or 65,536 where that is less.
     pub fn new(heap: Global, limit: usize) -> Result<Row, AllocError>
-        ensures { IfOk result (λ row. (rowNodes row ≡ []) × (rowLimit row ≡ min limit 65536)) }
+        ensures { IfOk result (λ row. (row_nodes row ≡ []) × (row_limit row ≡ min limit 65536)) }
     {
         let limit = limit.min(MOST);
         let nodes = Vec::with_capacity(heap, limit)?;
@@ -26,9 +26,9 @@ impl Row {
     // Adds a node at the end and answers its place. None, with the row as it was, exactly where the row is full
     // or the node may not stand there: it has more than eight arguments, or one that does not stand before it.
     pub fn push(&mut self, node: Node) -> Option<u32>
-        ensures place { result ≡ placeFor (rowLimit self.old) (rowNodes self.old) node }
-        ensures items { rowNodes self.new ≡ withNode (rowLimit self.old) (rowNodes self.old) node }
-        ensures limit { rowLimit self.new ≡ rowLimit self.old }
+        ensures place { result ≡ place_for (row_limit self.old) (row_nodes self.old) node }
+        ensures items { row_nodes self.new ≡ with_node (row_limit self.old) (row_nodes self.old) node }
+        ensures limit { row_limit self.new ≡ row_limit self.old }
     {
         let at = self.nodes.len();
         if at < self.limit && fits(node, at) {
@@ -40,16 +40,16 @@ impl Row {
     }
 
     pub fn clear(&mut self)
-        ensures items { rowNodes self.new ≡ [] }
-        ensures limit { rowLimit self.new ≡ rowLimit self.old }
+        ensures items { row_nodes self.new ≡ [] }
+        ensures limit { row_limit self.new ≡ row_limit self.old }
     {
         self.nodes.clear();
     }
 
     // Keeps the first `n` nodes.
     pub fn truncate(&mut self, n: usize)
-        ensures items { rowNodes self.new ≡ take n (rowNodes self.old) }
-        ensures limit { rowLimit self.new ≡ rowLimit self.old }
+        ensures items { row_nodes self.new ≡ take n (row_nodes self.old) }
+        ensures limit { row_limit self.new ≡ row_limit self.old }
     {
         self.nodes.truncate(n);
     }

@@ -1,7 +1,7 @@
 //! An empty builder, and what a builder holds.
 
 ghost use Rattle.std.specs.Prelude.{◌≡◌, [], IfOk};
-ghost use Rattle.terms.specs.RowViews.{rowNodes};
+ghost use Rattle.terms.specs.RowViews.{row_nodes};
 ghost use Rattle.text.specs.Builders.{Empty};
 
 use crate::builder::Builder;

@@ -3,9 +3,9 @@
 ghost use Rattle.std.specs.Prelude.{◌≡◌, [], IfOk};
 ghost use Rattle.names.specs.Listed.{Extends};
 ghost use Rattle.names.specs.View.{list};
-ghost use Rattle.terms.specs.RowViews.{rowNodes, rowLimit};
+ghost use Rattle.terms.specs.RowViews.{row_nodes, row_limit};
 ghost use Rattle.text.specs.Finishing.{StoresRule, AsksQuery};
-ghost use Rattle.text.specs.Readers.{readerSpans};
+ghost use Rattle.text.specs.Readers.{reader_spans};
 ghost use Rattle.text.specs.Rules.{RuleRead, QueryRead};
 
 use crate::answer::{QueryText, RuleText};
@@ -22,7 +22,7 @@ use terms::Row;
 impl TextReader {
     // A reader that has read nothing.
     pub fn new(heap: Global) -> Result<TextReader, AllocError>
-        ensures { IfOk result (λ t. readerSpans t ≡ []) }
+        ensures { IfOk result (λ t. reader_spans t ≡ []) }
     {
         let ops = Vec::with_capacity(heap, MAX_TEXT)?;
         let builder = Builder::new(heap)?;
@@ -36,8 +36,8 @@ impl TextReader {
         names: &mut Names,
         row: &mut Row,
     ) -> Result<RuleText, TextFault>
-        ensures read { rowLimit row.old ≡ 256 → RuleRead (list names.old) text.now (list names.new) (rowNodes row.new) (readerSpans self.new) result }
-        ensures limit { rowLimit row.new ≡ rowLimit row.old }
+        ensures read { row_limit row.old ≡ 256 → RuleRead (list names.old) text.now (list names.new) (row_nodes row.new) (reader_spans self.new) result }
+        ensures limit { row_limit row.new ≡ row_limit row.old }
     {
         row.clear();
         if text.len() > MAX_TEXT {
@@ -62,8 +62,8 @@ impl TextReader {
         names: &mut Names,
         row: &mut Row,
     ) -> Result<QueryText, TextFault>
-        ensures read { rowLimit row.old ≡ 256 → QueryRead (list names.old) text.now (list names.new) (rowNodes row.new) (readerSpans self.new) result }
-        ensures limit { rowLimit row.new ≡ rowLimit row.old }
+        ensures read { row_limit row.old ≡ 256 → QueryRead (list names.old) text.now (list names.new) (row_nodes row.new) (reader_spans self.new) result }
+        ensures limit { row_limit row.new ≡ row_limit row.old }
     {
         row.clear();
         if text.len() > MAX_TEXT {
@@ -83,7 +83,7 @@ impl TextReader {
 
     // The variables of the text that was read last, each where it was met first.
     pub fn variables(&self) -> &[Span]
-        ensures { result.now ≡ readerSpans self.now }
+        ensures { result.now ≡ reader_spans self.now }
     {
         self.builder.variables()
     }
@@ -98,7 +98,7 @@ impl TextReader {
     ) -> Result<RuleText, TextFault>
         ensures kept { Extends (list names.old) (list names.new) }
         ensures stored { StoresRule shape text.now self.old.ops.items (list names.old) (list names.new) row.old row.new self.new.builder result }
-        ensures limit { rowLimit row.new ≡ rowLimit row.old }
+        ensures limit { row_limit row.new ≡ row_limit row.old }
     {
         self.builder
             .build_rule(shape, text, self.ops.as_slice(), names)?;
@@ -114,7 +114,7 @@ impl TextReader {
     ) -> Result<QueryText, LimitFault>
         ensures kept { Extends (list names.old) (list names.new) }
         ensures asked { AsksQuery text.now self.old.ops.items (list names.old) (list names.new) row.old row.new self.new.builder result }
-        ensures limit { rowLimit row.new ≡ rowLimit row.old }
+        ensures limit { row_limit row.new ≡ row_limit row.old }
     {
         self.builder.build(text, self.ops.as_slice(), names)?;
         finish_query(&self.builder, row)

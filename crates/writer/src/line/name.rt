@@ -1,10 +1,10 @@
 //! Names, in quotes where they need them.
 
 ghost use Rattle.std.specs.Prelude.{◌≡◌, [], ◌∷◌};
-ghost use Rattle.tokens.specs.Bytes.{inRun, small};
-ghost use Rattle.writing.specs.Writing.{all, bare, doubled, nameText};
+ghost use Rattle.tokens.specs.Bytes.{in_run, small};
+ghost use Rattle.writing.specs.Writing.{all, bare, doubled, name_text};
 ghost use Rattle.writer.specs.Lines.{PutsBytes};
-ghost use Rattle.writer.specs.Pieces.{smallWord, symbolName, soloName};
+ghost use Rattle.writer.specs.Pieces.{small_word, symbol_name, solo_name};
 
 use crate::fault::DoesNotFit;
 use crate::line::LineWriter;
@@ -12,7 +12,7 @@ use crate::piece::is_name;
 use tokens::kind::{Run, in_run};
 
 fn all_in(bytes: &[u8], run: Run) -> bool
-    ensures { result ≡ all (inRun run) bytes.now }
+    ensures { result ≡ all (in_run run) bytes.now }
 {
     for i in 0..bytes.len() {
         if !in_run(run, bytes[i]) {
@@ -33,7 +33,7 @@ fn is_small(b: u8) -> bool
 
 // A small letter, and then letters, digits and `_`.
 fn is_small_word(name: &[u8]) -> bool
-    ensures { result ≡ smallWord name.now }
+    ensures { result ≡ small_word name.now }
 {
     if name.len() > 0 && is_small(name[0]) {
         all_in(name, Run::Word)
@@ -44,7 +44,7 @@ fn is_small_word(name: &[u8]) -> bool
 
 // Symbols, but for `:-`.
 fn is_symbol_name(name: &[u8]) -> bool
-    ensures { result ≡ symbolName name.now }
+    ensures { result ≡ symbol_name name.now }
 {
     if name.len() == 0 || is_name(name, b":-") {
         false
@@ -54,7 +54,7 @@ fn is_symbol_name(name: &[u8]) -> bool
 }
 
 fn is_solo_name(name: &[u8]) -> bool
-    ensures { result ≡ soloName name.now }
+    ensures { result ≡ solo_name name.now }
 {
     if is_name(name, b";") {
         true
@@ -78,7 +78,7 @@ fn is_bare(name: &[u8]) -> bool
 
 impl LineWriter {
     pub(super) fn name(&mut self, name: &[u8]) -> Result<(), DoesNotFit>
-        ensures { PutsBytes self.old self.new (nameText name.now) result }
+        ensures { PutsBytes self.old self.new (name_text name.now) result }
     {
         if is_bare(name) {
             return self.put(name);

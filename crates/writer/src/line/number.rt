@@ -4,7 +4,7 @@ ghost use Rattle.std.specs.Prelude.{◌≡◌, ◌≤◌, [], ◌∷◌, length,
 ghost use Rattle.terms.specs.Term.{var};
 ghost use Rattle.writer.specs.declared.piece.Spot.TheVariants.{Alone};
 ghost use Rattle.writer.specs.Lines.{PutsBytes, PutsTerm};
-ghost use Rattle.writer.specs.Shown.{integerText, place_in};
+ghost use Rattle.writer.specs.Shown.{integer_text, place_in};
 
 use crate::fault::DoesNotFit;
 use crate::line::LineWriter;
@@ -41,7 +41,7 @@ impl LineWriter {
     }
 
     pub(super) fn integer(&mut self, i: i32) -> Result<(), DoesNotFit>
-        ensures { PutsBytes self.old self.new (integerText i) result }
+        ensures { PutsBytes self.old self.new (integer_text i) result }
     {
         if i >= 0 {
             return self.number(i.unsigned_abs());

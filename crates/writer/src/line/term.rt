@@ -2,10 +2,10 @@
 
 ghost use Rattle.std.specs.Prelude.{◌≡◌, ◌<◌, ◌≤◌, [], length, take, slice_index_or};
 ghost use Rattle.names.specs.View.{list};
-ghost use Rattle.terms.specs.RowViews.{rowNodes};
+ghost use Rattle.terms.specs.RowViews.{row_nodes};
 ghost use Rattle.terms.specs.Term.{var, int};
-ghost use Rattle.writer.specs.Lines.{PutsBytes, PutsTerm, PutsShown, TermAdded, termOf};
-ghost use Rattle.writer.specs.Pieces.{openingText, closingText, furtherText, headText};
+ghost use Rattle.writer.specs.Lines.{PutsBytes, PutsTerm, PutsShown, TermAdded, term_of};
+ghost use Rattle.writer.specs.Pieces.{opening_text, closing_text, further_text, head_text};
 
 use crate::fault::DoesNotFit;
 use crate::line::LineWriter;
@@ -34,7 +34,7 @@ fn arguments(args: &[u32; 8], arity: u8) -> &[u32]
 impl LineWriter {
     // Adds the term at `at`, or nothing of it where it does not all fit. Outside the row stands the number 0.
     pub fn term(&mut self, row: &Row, at: u32, names: &Names) -> Result<(), DoesNotFit>
-        ensures { TermAdded self.old self.new (termOf names.now row.now at) result }
+        ensures { TermAdded self.old self.new (term_of names.now row.now at) result }
     {
         let length_before = self.bytes.len();
         let seen_before = self.seen.len();
@@ -50,7 +50,7 @@ impl LineWriter {
 
     // The same, but where it does not fit, a part of it stays.
     fn whole(&mut self, row: &Row, at: u32, names: &Names) -> Result<(), DoesNotFit>
-        ensures { PutsShown self.old self.new (termOf names.now row.now at) result }
+        ensures { PutsShown self.old self.new (term_of names.now row.now at) result }
     {
         if row.len() <= at as usize {
             self.number(0)
@@ -61,8 +61,8 @@ impl LineWriter {
 
     // The term at `at` of a row, with what its spot asks for.
     fn node(&mut self, row: &Row, at: u32, names: &Names, spot: Spot) -> Result<(), DoesNotFit>
-        requires { at < length (rowNodes row.now) }
-        ensures { PutsTerm self.old self.new spot (termOf names.now row.now at) result }
+        requires { at < length (row_nodes row.now) }
+        ensures { PutsTerm self.old self.new spot (term_of names.now row.now at) result }
     {
         match row.nodes()[at as usize] {
             Node::Var(variable) => self.placed_variable(spot, variable),
@@ -98,7 +98,7 @@ impl LineWriter {
 
     // What stands before the arguments.
     fn opening(&mut self, spot: Spot, form: Form, name: &[u8]) -> Result<(), DoesNotFit>
-        ensures { PutsBytes self.old self.new (openingText spot form name.now) result }
+        ensures { PutsBytes self.old self.new (opening_text spot form name.now) result }
     {
         if goes_on(spot, form) {
             return self.further(form);
@@ -109,7 +109,7 @@ impl LineWriter {
 
     // How an open list or conjunction goes on.
     fn further(&mut self, form: Form) -> Result<(), DoesNotFit>
-        ensures { PutsBytes self.old self.new (furtherText form) result }
+        ensures { PutsBytes self.old self.new (further_text form) result }
     {
         match form {
             Form::Empty => self.put(b"]"),
@@ -119,7 +119,7 @@ impl LineWriter {
 
     // The name or the bracket before the arguments.
     fn head(&mut self, form: Form, name: &[u8]) -> Result<(), DoesNotFit>
-        ensures { PutsBytes self.old self.new (headText form name.now) result }
+        ensures { PutsBytes self.old self.new (head_text form name.now) result }
     {
         match form {
             Form::Constant => self.name(name),
@@ -135,7 +135,7 @@ impl LineWriter {
 
     // What stands behind the arguments.
     fn closing(&mut self, spot: Spot, form: Form) -> Result<(), DoesNotFit>
-        ensures { PutsBytes self.old self.new (closingText spot form) result }
+        ensures { PutsBytes self.old self.new (closing_text spot form) result }
     {
         if goes_on(spot, form) {
             return Ok(());

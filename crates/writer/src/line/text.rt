@@ -1,7 +1,7 @@
 //! How a line is made, and bytes as they are.
 
 ghost use Rattle.std.specs.Prelude.{◌≡◌, ◌+◌, ◌≤◌, min, [], ◌++◌, length, IfOk, vec_len, vec_capacity};
-ghost use Rattle.writer.specs.Lines.{lineBytes, lineSeen, lineLimit, PutsBytes, TextAdded};
+ghost use Rattle.writer.specs.Lines.{line_bytes, line_seen, line_limit, PutsBytes, TextAdded};
 
 use crate::fault::DoesNotFit;
 use crate::line::LineWriter;
@@ -25,7 +25,7 @@ fn append(bytes: &mut Vec<u8>, text: &[u8])
 impl LineWriter {
     // An empty line for at most `limit` bytes, or 65,536 where that is less.
     pub fn new(heap: Global, limit: usize) -> Result<LineWriter, AllocError>
-        ensures { IfOk result (λ w. (lineBytes w ≡ []) × (lineSeen w ≡ []) × (lineLimit w ≡ min limit 65536)) }
+        ensures { IfOk result (λ w. (line_bytes w ≡ []) × (line_seen w ≡ []) × (line_limit w ≡ min limit 65536)) }
     {
         let limit = limit.min(MOST);
         let bytes = Vec::with_capacity(heap, limit)?;
@@ -35,16 +35,16 @@ impl LineWriter {
 
     // A new line: no bytes, and no variable seen.
     pub fn clear(&mut self)
-        ensures bytes { lineBytes self.new ≡ [] }
-        ensures seen { lineSeen self.new ≡ [] }
-        ensures limit { lineLimit self.new ≡ lineLimit self.old }
+        ensures bytes { line_bytes self.new ≡ [] }
+        ensures seen { line_seen self.new ≡ [] }
+        ensures limit { line_limit self.new ≡ line_limit self.old }
     {
         self.seen.clear();
         self.bytes.clear();
     }
 
     pub fn bytes(&self) -> &[u8]
-        ensures { result.now ≡ lineBytes self.now }
+        ensures { result.now ≡ line_bytes self.now }
     {
         self.bytes.as_slice()
     }

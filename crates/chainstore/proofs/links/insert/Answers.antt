@@ -16,6 +16,6 @@ returns c =
           (vec_items c.bridge.new.links)
           (vec_items c.bridge-2.new.links) (omega arith) (omega arith) (omega arith)
           (subst (λ xs. Bridged xs c.args.before c.len-cell.result (vec_items c.bridge.new.links))
-          c.push-reserved.ensures.items c.bridge.ensures.links)
+          c.push_reserved.ensures.items c.bridge.ensures.links)
           c.bridge-2.ensures.links;
     }

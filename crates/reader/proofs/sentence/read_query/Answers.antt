@@ -12,18 +12,18 @@ returns-in-Space c =
       same-room = refl;
     }
 
-pub returns-in-err-goals : goal.returns-in-err-goals
-returns-in-err-goals c =
-    let p = err_from_is_err_and c.from-residual.result c.from-residual.ensures.1 in
+pub returns-in_err-goals : goal.returns-in_err-goals
+returns-in_err-goals c =
+    let p = err_from_is_err_and c.from_residual.result c.from_residual.ensures.1 in
     rw (p.1, p.2) (record {
-      read = query_fails c.args.line.now c.in-err-goals.field-0.0
-          (λ e. c.in-default.not-Space (c.kind-at.ensures.value ∙ e)) c.in-err-goals.ensures.read;
+      read = query_fails c.args.line.now c.in_err-goals.field-0.0
+          (λ e. c.in_default.not-Space (c.kind_at.ensures.value ∙ e)) c.in_err-goals.ensures.read;
       same-room = c.goals.ensures.same-room;
     })
 
-pub returns-in-ok-goals : goal.returns-in-ok-goals
-returns-in-ok-goals c = record {
-  read = query_read c.requires.empty (λ e. c.in-default.not-Space (c.kind-at.ensures.value ∙ e))
-      c.in-ok-goals.ensures.read;
+pub returns-in_ok-goals : goal.returns-in_ok-goals
+returns-in_ok-goals c = record {
+  read = query_read c.requires.empty (λ e. c.in_default.not-Space (c.kind_at.ensures.value ∙ e))
+      c.in_ok-goals.ensures.read;
   same-room = c.goals.ensures.same-room;
 }

@@ -28,45 +28,45 @@ arguments-returns-then-left-eq0 t c =
       same-room = refl;
     }
 
-pub arguments-returns-in-err-many : goal.arguments-returns-in-err-many
-arguments-returns-in-err-many t c =
-    let p = err_from_is_err_and c.from-residual.result c.from-residual.ensures.1 in
+pub arguments-returns-in_err-many : goal.arguments-returns-in_err-many
+arguments-returns-in_err-many t c =
+    let p = err_from_is_err_and c.from_residual.result c.from_residual.ensures.1 in
     rw (p.1, p.2) (record {
       read = arguments_break (sym c.in-Opening.ensures.value) (omega arith)
-          c.in-err-many.ensures.read;
+          c.in_err-many.ensures.read;
       fitted = tt;
       same-room = c.terms.ensures.same-room;
     })
 
 pub arguments-returns-in-Closing : goal.arguments-returns-in-Closing
 arguments-returns-in-Closing t c =
-    let g = c.in-ok-many.ensures in
+    let g = c.in_ok-many.ensures in
     let k = c.in-Closing.ensures in
-    let w = c.run-end-close.ensures.within.0 in
+    let w = c.run_end-close.ensures.within.0 in
     let f = g.fitted in
     record {
       read = arguments_reach
-          (sym c.in-Opening.ensures.value) (omega arith) g.read c.run-end-close.ensures.value w
+          (sym c.in-Opening.ensures.value) (omega arith) g.read c.run_end-close.ensures.value w
           k.value k.inside refl refl;
       fitted = omega arith;
       same-room = c.terms.ensures.same-room;
     }
 
-pub arguments-returns-in-default-kind-at : goal.arguments-returns-in-default-kind-at
-arguments-returns-in-default-kind-at t c =
-    let g = c.in-ok-many.ensures in
+pub arguments-returns-in_default-kind_at : goal.arguments-returns-in_default-kind_at
+arguments-returns-in_default-kind_at t c =
+    let g = c.in_ok-many.ensures in
     record {
       read = arguments_unclosed
-          (sym c.in-Opening.ensures.value) (omega arith) g.read c.run-end-close.ensures.value
-          (c.run-end-close.ensures.within.1 g.read.within)
-          (λ e. c.in-default-kind-at.not-Closing (c.kind-at-in-Opening.ensures.value ∙ e)) c.unexpected.ensures;
+          (sym c.in-Opening.ensures.value) (omega arith) g.read c.run_end-close.ensures.value
+          (c.run_end-close.ensures.within.1 g.read.within)
+          (λ e. c.in_default-kind_at.not-Closing (c.kind_at-in-Opening.ensures.value ∙ e)) c.unexpected.ensures;
       fitted = tt;
       same-room = c.terms.ensures.same-room;
     }
 
-pub arguments-returns-in-default : goal.arguments-returns-in-default
-arguments-returns-in-default t c = record {
-  read = no_arguments (λ e. c.in-default.not-Opening (c.kind-at.ensures.value ∙ e)) c.requires.within refl refl;
+pub arguments-returns-in_default : goal.arguments-returns-in_default
+arguments-returns-in_default t c = record {
+  read = no_arguments (λ e. c.in_default.not-Opening (c.kind_at.ensures.value ∙ e)) c.requires.within refl refl;
   fitted = omega arith;
   same-room = refl;
 }
@@ -79,118 +79,118 @@ bracketed-returns-then-left-eq0 t c =
       same-room = refl;
     }
 
-pub bracketed-returns-in-err-many : goal.bracketed-returns-in-err-many
-bracketed-returns-in-err-many t c =
-    let p = err_from_is_err_and c.from-residual.result c.from-residual.ensures.1 in
+pub bracketed-returns-in_err-many : goal.bracketed-returns-in_err-many
+bracketed-returns-in_err-many t c =
+    let p = err_from_is_err_and c.from_residual.result c.from_residual.ensures.1 in
     rw (p.1, p.2) (record {
-      read = round_breaks c.requires.within.0 c.requires.within.1 (omega arith) c.in-err-many.ensures.read;
+      read = round_breaks c.requires.within.0 c.requires.within.1 (omega arith) c.in_err-many.ensures.read;
       fitted = tt;
       same-room = c.terms.ensures.same-room;
     })
 
 pub bracketed-returns-in-Closing : goal.bracketed-returns-in-Closing
 bracketed-returns-in-Closing t c =
-    let g = c.in-ok-many.ensures in
+    let g = c.in_ok-many.ensures in
     let k = c.in-Closing.ensures in
-    let w = c.run-end-close.ensures.within.0 in
+    let w = c.run_end-close.ensures.within.0 in
     let f = g.fitted in
     let n = g.read.counted in
     let r = c.repeat.ensures.len in
     record {
       read = round_reaches
-          c.requires.within.0 c.requires.within.1 (omega arith) g.read c.run-end-close.ensures.value w
+          c.requires.within.0 c.requires.within.1 (omega arith) g.read c.run_end-close.ensures.value w
           k.value k.inside c.repeat.ensures.items;
       fitted = omega arith;
       same-room = c.repeat.ensures.same-room ∙ c.terms.ensures.same-room;
     }
 
-pub bracketed-returns-in-default : goal.bracketed-returns-in-default
-bracketed-returns-in-default t c =
-    let g = c.in-ok-many.ensures in
+pub bracketed-returns-in_default : goal.bracketed-returns-in_default
+bracketed-returns-in_default t c =
+    let g = c.in_ok-many.ensures in
     record {
       read = round_unclosed
-          c.requires.within.0 c.requires.within.1 (omega arith) g.read c.run-end-close.ensures.value
-          (c.run-end-close.ensures.within.1 g.read.within)
-          (λ e. c.in-default.not-Closing (c.kind-at.ensures.value ∙ e)) c.unexpected.ensures;
+          c.requires.within.0 c.requires.within.1 (omega arith) g.read c.run_end-close.ensures.value
+          (c.run_end-close.ensures.within.1 g.read.within)
+          (λ e. c.in_default.not-Closing (c.kind_at.ensures.value ∙ e)) c.unexpected.ensures;
       fitted = tt;
       same-room = c.terms.ensures.same-room;
     }
 
-pub elements-returns-in-err-many : goal.elements-returns-in-err-many
-elements-returns-in-err-many t c =
-    let p = err_from_is_err_and c.from-residual.result c.from-residual.ensures.1 in
+pub elements-returns-in_err-many : goal.elements-returns-in_err-many
+elements-returns-in_err-many t c =
+    let p = err_from_is_err_and c.from_residual.result c.from_residual.ensures.1 in
     rw (p.1, p.2) (record {
-      read = elements_break c.requires.within.1 c.in-err-many.ensures.read;
+      read = elements_break c.requires.within.1 c.in_err-many.ensures.read;
       fitted = tt;
       same-room = c.terms.ensures.same-room;
     })
 
-pub elements-returns-in-err-end : goal.elements-returns-in-err-end
-elements-returns-in-err-end t c =
-    let p = err_from_is_err_and c.from-residual-in-err-end.result c.from-residual-in-err-end.ensures.1 in
-    let g = c.in-ok-many.ensures in
+pub elements-returns-in_err-end : goal.elements-returns-in_err-end
+elements-returns-in_err-end t c =
+    let p = err_from_is_err_and c.from_residual-in_err-end.result c.from_residual-in_err-end.ensures.1 in
+    let g = c.in_ok-many.ensures in
     rw (p.1, p.2) (record {
-      read = tail_breaks c.run-end-close.result c.requires.within.1 g.read c.run-end-close.ensures.value
-          c.in-Bar.ensures.value c.in-err-end.ensures.read;
+      read = tail_breaks c.run_end-close.result c.requires.within.1 g.read c.run_end-close.ensures.value
+          c.in-Bar.ensures.value c.in_err-end.ensures.read;
       fitted = tt;
       same-room = c.term.ensures.same-room ∙ c.terms.ensures.same-room;
     })
 
 pub elements-returns-in-Right : goal.elements-returns-in-Right
 elements-returns-in-Right t c =
-    let g = c.in-ok-many.ensures in
+    let g = c.in_ok-many.ensures in
     let k = c.in-Right.ensures in
-    let w = c.run-end-close.ensures.within.0 in
+    let w = c.run_end-close.ensures.within.0 in
     let f = g.fitted in
-    let l = c.push-reserved.ensures.len in
+    let l = c.push_reserved.ensures.len in
     let r = c.repeat.ensures.len in
     record {
-      read = elements_reach c.requires.within.1 g.read c.run-end-close.ensures.value w k.value k.inside
-          c.push-reserved.ensures.items c.repeat.ensures.items;
+      read = elements_reach c.requires.within.1 g.read c.run_end-close.ensures.value w k.value k.inside
+          c.push_reserved.ensures.items c.repeat.ensures.items;
       fitted = omega arith;
-      same-room = c.repeat.ensures.same-room ∙ c.push-reserved.ensures.capacity ∙ c.terms.ensures.same-room;
+      same-room = c.repeat.ensures.same-room ∙ c.push_reserved.ensures.capacity ∙ c.terms.ensures.same-room;
     }
 
-pub elements-returns-in-Right-kind-at : goal.elements-returns-in-Right-kind-at
-elements-returns-in-Right-kind-at t c =
-    let g = c.in-ok-many.ensures in
-    let h = c.in-ok-end.ensures in
-    let k = c.in-Right-kind-at.ensures in
-    let v = c.run-end-close.ensures.within.0 in
-    let w = c.run-end-last.ensures.within.0 in
+pub elements-returns-in-Right-kind_at : goal.elements-returns-in-Right-kind_at
+elements-returns-in-Right-kind_at t c =
+    let g = c.in_ok-many.ensures in
+    let h = c.in_ok-end.ensures in
+    let k = c.in-Right-kind_at.ensures in
+    let v = c.run_end-close.ensures.within.0 in
+    let w = c.run_end-last.ensures.within.0 in
     let f = g.fitted in
     let i = h.fitted in
-    let r = c.repeat-in-Right-kind-at.ensures.len in
+    let r = c.repeat-in-Right-kind_at.ensures.len in
     record {
       read = tail_reaches
-          c.requires.within.1 g.read c.run-end-close.ensures.value v c.in-Bar.ensures.value h.read
-          c.run-end-last.ensures.value w k.value k.inside c.repeat-in-Right-kind-at.ensures.items;
+          c.requires.within.1 g.read c.run_end-close.ensures.value v c.in-Bar.ensures.value h.read
+          c.run_end-last.ensures.value w k.value k.inside c.repeat-in-Right-kind_at.ensures.items;
       fitted = omega arith;
-      same-room = c.repeat-in-Right-kind-at.ensures.same-room ∙ c.term.ensures.same-room
+      same-room = c.repeat-in-Right-kind_at.ensures.same-room ∙ c.term.ensures.same-room
           ∙ c.terms.ensures.same-room;
     }
 
-pub elements-returns-in-default-kind-at : goal.elements-returns-in-default-kind-at
-elements-returns-in-default-kind-at t c =
-    let g = c.in-ok-many.ensures in
-    let h = c.in-ok-end.ensures in
+pub elements-returns-in_default-kind_at : goal.elements-returns-in_default-kind_at
+elements-returns-in_default-kind_at t c =
+    let g = c.in_ok-many.ensures in
+    let h = c.in_ok-end.ensures in
     record {
-      read = tail_unclosed c.run-end-close.result
-          c.requires.within.1 g.read c.run-end-close.ensures.value c.in-Bar.ensures.value h.read
-          c.run-end-last.ensures.value (c.run-end-last.ensures.within.1 h.read.within)
-          (λ e. c.in-default-kind-at.not-Right (c.kind-at-in-Bar.ensures.value ∙ e)) c.unexpected.ensures;
+      read = tail_unclosed c.run_end-close.result
+          c.requires.within.1 g.read c.run_end-close.ensures.value c.in-Bar.ensures.value h.read
+          c.run_end-last.ensures.value (c.run_end-last.ensures.within.1 h.read.within)
+          (λ e. c.in_default-kind_at.not-Right (c.kind_at-in-Bar.ensures.value ∙ e)) c.unexpected.ensures;
       fitted = tt;
       same-room = c.term.ensures.same-room ∙ c.terms.ensures.same-room;
     }
 
-pub elements-returns-in-default : goal.elements-returns-in-default
-elements-returns-in-default t c =
-    let g = c.in-ok-many.ensures in
+pub elements-returns-in_default : goal.elements-returns-in_default
+elements-returns-in_default t c =
+    let g = c.in_ok-many.ensures in
     record {
-      read = elements_unclosed c.requires.within.1 g.read c.run-end-close.ensures.value
-          (c.run-end-close.ensures.within.1 g.read.within)
-          (λ e. c.in-default.not-Right (c.kind-at.ensures.value ∙ e))
-          (λ e. c.in-default.not-Bar (c.kind-at.ensures.value ∙ e)) c.unexpected-in-default.ensures;
+      read = elements_unclosed c.requires.within.1 g.read c.run_end-close.ensures.value
+          (c.run_end-close.ensures.within.1 g.read.within)
+          (λ e. c.in_default.not-Right (c.kind_at.ensures.value ∙ e))
+          (λ e. c.in_default.not-Bar (c.kind_at.ensures.value ∙ e)) c.unexpected-in_default.ensures;
       fitted = tt;
       same-room = c.terms.ensures.same-room;
     }
@@ -206,18 +206,18 @@ list-returns-then-left-eq0 t c =
 pub list-returns-in-Right : goal.list-returns-in-Right
 list-returns-in-Right t c =
     let k = c.in-Right.ensures in
-    let w = c.run-end-first.ensures.within.0 in
-    let l = c.push-reserved.ensures.len in
+    let w = c.run_end-first.ensures.within.0 in
+    let l = c.push_reserved.ensures.len in
     record {
       read = empty_reaches
-          c.requires.within.0 c.requires.within.1 (omega arith) c.run-end-first.ensures.value w k.value
-          k.inside c.push-reserved.ensures.items;
+          c.requires.within.0 c.requires.within.1 (omega arith) c.run_end-first.ensures.value w k.value
+          k.inside c.push_reserved.ensures.items;
       fitted = omega arith;
-      same-room = c.push-reserved.ensures.capacity;
+      same-room = c.push_reserved.ensures.capacity;
     }
 
-pub list-returns-in-default : goal.list-returns-in-default
-list-returns-in-default t c = record {
+pub list-returns-in_default : goal.list-returns-in_default
+list-returns-in_default t c = record {
   read = list_read c.args.left c.args.line.now c.args.start (vec_items c.args.ops.now)
       (vec_items c.elements.new.ops) c.elements.result
       c.requires.within.0 c.requires.within.1 (omega arith) c.elements.ensures.read;
@@ -226,48 +226,48 @@ list-returns-in-default t c = record {
   same-room = c.elements.ensures.same-room;
 }
 
-pub term-returns-in-err-found : goal.term-returns-in-err-found
-term-returns-in-err-found t c =
-    let p = err_from_is_err_and c.from-residual.result c.from-residual.ensures.1 in
-    let f = c.in-err-found.field-0.0 in
+pub term-returns-in_err-found : goal.term-returns-in_err-found
+term-returns-in_err-found t c =
+    let p = err_from_is_err_and c.from_residual.result c.from_residual.ensures.1 in
+    let f = c.in_err-found.field-0.0 in
     rw (p.1, p.2) (record {
-      read = token_breaks c.args.left c.args.line.now c.args.pos f c.in-err-found.ensures;
+      read = token_breaks c.args.left c.args.line.now c.args.pos f c.in_err-found.ensures;
       fitted = tt;
       same-room = refl;
     })
 
-pub term-returns-in-err-closed : goal.term-returns-in-err-closed
-term-returns-in-err-closed t c =
-    let p = err_from_is_err_and c.from-residual-in-err-closed.result c.from-residual-in-err-closed.ensures.1
+pub term-returns-in_err-closed : goal.term-returns-in_err-closed
+term-returns-in_err-closed t c =
+    let p = err_from_is_err_and c.from_residual-in_err-closed.result c.from_residual-in_err-closed.ensures.1
     in
-    let x = c.in-ok-found.found in
+    let x = c.in_ok-found.found in
     let k = code.Name c.in-Name.field-0 in
-    let g = at_token c.args.line.now c.args.pos x k c.in-ok-found.ensures c.requires.within
+    let g = at_token c.args.line.now c.args.pos x k c.in_ok-found.ensures c.requires.within
     c.in-Name.is in
     rw (p.1, p.2) (record {
-      read = name_breaks _ g refl c.in-err-closed.ensures.read;
+      read = name_breaks _ g refl c.in_err-closed.ensures.read;
       fitted = tt;
       same-room = c.arguments.ensures.same-room;
     })
 
-pub term-returns-in-err-closed-2 : goal.term-returns-in-err-closed-2
-term-returns-in-err-closed-2 t c =
-    let p = err_from_is_err_and c.from-residual-in-err-closed-2.result
-    c.from-residual-in-err-closed-2.ensures.1 in
-    let x = c.in-ok-found.found in
+pub term-returns-in_err-closed-2 : goal.term-returns-in_err-closed-2
+term-returns-in_err-closed-2 t c =
+    let p = err_from_is_err_and c.from_residual-in_err-closed-2.result
+    c.from_residual-in_err-closed-2.ensures.1 in
+    let x = c.in_ok-found.found in
     let k = code.Quoted c.in-Quoted.field-0 in
-    let g = at_token c.args.line.now c.args.pos x k c.in-ok-found.ensures c.requires.within
+    let g = at_token c.args.line.now c.args.pos x k c.in_ok-found.ensures c.requires.within
     c.in-Quoted.is in
     rw (p.1, p.2) (record {
-      read = name_breaks _ g refl c.in-err-closed-2.ensures.read;
+      read = name_breaks _ g refl c.in_err-closed-2.ensures.read;
       fitted = tt;
       same-room = c.arguments-in-Quoted.ensures.same-room;
     })
 
 pub term-bracketed-requires : goal.term-bracketed-requires
 term-bracketed-requires t c =
-    let x = c.in-ok-found.found in
-    let g = at_token c.args.line.now c.args.pos x code.Opening c.in-ok-found.ensures
+    let x = c.in_ok-found.found in
+    let g = at_token c.args.line.now c.args.pos x code.Opening c.in_ok-found.ensures
     c.requires.within c.in-Opening.is in
     let l = g.later in
     let s = g.long in
@@ -284,8 +284,8 @@ term-bracketed-requires t c =
 
 pub term-list-requires : goal.term-list-requires
 term-list-requires t c =
-    let x = c.in-ok-found.found in
-    let g = at_token c.args.line.now c.args.pos x code.Left c.in-ok-found.ensures
+    let x = c.in_ok-found.found in
+    let g = at_token c.args.line.now c.args.pos x code.Left c.in_ok-found.ensures
     c.requires.within c.in-Left.is in
     let l = g.later in
     let s = g.long in
@@ -302,86 +302,86 @@ term-list-requires t c =
 
 pub term-returns-in-Variable : goal.term-returns-in-Variable
 term-returns-in-Variable t c =
-    let x = c.in-ok-found.found in
+    let x = c.in_ok-found.found in
     let k = code.Variable c.in-Variable.field-0 in
-    let g = at_token c.args.line.now c.args.pos x k c.in-ok-found.ensures c.requires.within
+    let g = at_token c.args.line.now c.args.pos x k c.in_ok-found.ensures c.requires.within
     c.in-Variable.is in
     let l = g.later in
     let s = g.long in
-    let u = c.push-reserved.ensures.len in
+    let u = c.push_reserved.ensures.len in
     let before = vec_items c.args.ops.now in
     record {
       read = leaf_reaches _ (var c.in-Variable.field-0.now) (op.Variable x.start x.end)
           g refl g.long (λ y. refl) (ap (λ b. var b ∷ run c.args.line.now before) (sym g.holds))
-          c.push-reserved.ensures.items;
+          c.push_reserved.ensures.items;
       fitted = omega arith;
-      same-room = c.push-reserved.ensures.capacity;
+      same-room = c.push_reserved.ensures.capacity;
     }
 
 pub term-returns-in-Integer : goal.term-returns-in-Integer
 term-returns-in-Integer t c =
-    let x = c.in-ok-found.found in
+    let x = c.in_ok-found.found in
     let k = code.Integer c.in-Integer.field-0 in
-    let g = at_token c.args.line.now c.args.pos x k c.in-ok-found.ensures c.requires.within
+    let g = at_token c.args.line.now c.args.pos x k c.in_ok-found.ensures c.requires.within
     c.in-Integer.is in
     let l = g.later in
     let s = g.long in
-    let u = c.push-reserved-in-Integer.ensures.len in
+    let u = c.push_reserved-in-Integer.ensures.len in
     let before = vec_items c.args.ops.now in
     record {
       read = leaf_reaches _ (int c.in-Integer.field-0.now) (op.Integer x.start x.end)
           g refl g.long (λ y. refl) (ap (λ b. int b ∷ run c.args.line.now before) (sym g.holds))
-          c.push-reserved-in-Integer.ensures.items;
+          c.push_reserved-in-Integer.ensures.items;
       fitted = omega arith;
-      same-room = c.push-reserved-in-Integer.ensures.capacity;
+      same-room = c.push_reserved-in-Integer.ensures.capacity;
     }
 
-pub term-returns-in-ok-closed : goal.term-returns-in-ok-closed
-term-returns-in-ok-closed t c =
-    let x = c.in-ok-found.found in
-    let y = c.in-ok-closed.closed in
-    let h = c.in-ok-closed.ensures in
+pub term-returns-in_ok-closed : goal.term-returns-in_ok-closed
+term-returns-in_ok-closed t c =
+    let x = c.in_ok-found.found in
+    let y = c.in_ok-closed.closed in
+    let h = c.in_ok-closed.ensures in
     let k = code.Name c.in-Name.field-0 in
     let b = c.in-Name.field-0.now in
-    let g = at_token c.args.line.now c.args.pos x k c.in-ok-found.ensures c.requires.within
+    let g = at_token c.args.line.now c.args.pos x k c.in_ok-found.ensures c.requires.within
     c.in-Name.is in
     let l = g.later in
     let s = g.long in
     let f = h.fitted in
-    let u = c.push-reserved-in-Name.ensures.len in
+    let u = c.push_reserved-in-Name.ensures.len in
     record {
       read = name_reaches b (op.Name x.start x.end y.count)
           g refl g.long h.read (λ st. ap (λ b. named b (take_many y.count st)) (sym g.holds))
-          c.push-reserved-in-Name.ensures.items;
+          c.push_reserved-in-Name.ensures.items;
       fitted = omega arith;
-      same-room = c.push-reserved-in-Name.ensures.capacity ∙ c.arguments.ensures.same-room;
+      same-room = c.push_reserved-in-Name.ensures.capacity ∙ c.arguments.ensures.same-room;
     }
 
-pub term-returns-in-ok-closed-2 : goal.term-returns-in-ok-closed-2
-term-returns-in-ok-closed-2 t c =
-    let x = c.in-ok-found.found in
-    let y = c.in-ok-closed-2.closed in
-    let h = c.in-ok-closed-2.ensures in
+pub term-returns-in_ok-closed-2 : goal.term-returns-in_ok-closed-2
+term-returns-in_ok-closed-2 t c =
+    let x = c.in_ok-found.found in
+    let y = c.in_ok-closed-2.closed in
+    let h = c.in_ok-closed-2.ensures in
     let k = code.Quoted c.in-Quoted.field-0 in
     let b = undouble false c.in-Quoted.field-0.now in
-    let g = at_token c.args.line.now c.args.pos x k c.in-ok-found.ensures c.requires.within
+    let g = at_token c.args.line.now c.args.pos x k c.in_ok-found.ensures c.requires.within
     c.in-Quoted.is in
     let l = g.later in
     let s = g.long in
     let f = h.fitted in
-    let u = c.push-reserved-in-Quoted.ensures.len in
+    let u = c.push_reserved-in-Quoted.ensures.len in
     record {
       read = name_reaches b (op.Quoted (x.start + 1) (x.end - 1) y.count)
           g refl g.long h.read (λ st. ap (λ b. named (undouble false b) (take_many y.count st))
-          (sym g.holds.1)) c.push-reserved-in-Quoted.ensures.items;
+          (sym g.holds.1)) c.push_reserved-in-Quoted.ensures.items;
       fitted = omega arith;
-      same-room = c.push-reserved-in-Quoted.ensures.capacity ∙ c.arguments-in-Quoted.ensures.same-room;
+      same-room = c.push_reserved-in-Quoted.ensures.capacity ∙ c.arguments-in-Quoted.ensures.same-room;
     }
 
 pub term-returns-in-Opening : goal.term-returns-in-Opening
 term-returns-in-Opening t c =
-    let x = c.in-ok-found.found in
-    let g = at_token c.args.line.now c.args.pos x code.Opening c.in-ok-found.ensures
+    let x = c.in_ok-found.found in
+    let g = at_token c.args.line.now c.args.pos x code.Opening c.in_ok-found.ensures
     c.requires.within c.in-Opening.is in
     record {
       read = read_later c.args.left c.args.line.now c.args.pos code.Opening x.start x.end
@@ -394,8 +394,8 @@ term-returns-in-Opening t c =
 
 pub term-returns-in-Left : goal.term-returns-in-Left
 term-returns-in-Left t c =
-    let x = c.in-ok-found.found in
-    let g = at_token c.args.line.now c.args.pos x code.Left c.in-ok-found.ensures
+    let x = c.in_ok-found.found in
+    let g = at_token c.args.line.now c.args.pos x code.Left c.in_ok-found.ensures
     c.requires.within c.in-Left.is in
     record {
       read = read_later c.args.left c.args.line.now c.args.pos code.Left x.start x.end
@@ -408,8 +408,8 @@ term-returns-in-Left t c =
 
 pub term-returns-in-Neck : goal.term-returns-in-Neck
 term-returns-in-Neck t c =
-    let x = c.in-ok-found.found in
-    let g = at_token c.args.line.now c.args.pos x code.Neck c.in-ok-found.ensures
+    let x = c.in_ok-found.found in
+    let g = at_token c.args.line.now c.args.pos x code.Neck c.in_ok-found.ensures
     c.requires.within c.in-Neck.is in
     record {
       read = neck_breaks g c.unexpected.ensures;
@@ -436,8 +436,8 @@ no_term n line pos x h l (inr (inr (inr (inr (inr e))))) = end_breaks (at_token 
 
 pub term-returns-in-Closing : goal.term-returns-in-Closing
 term-returns-in-Closing t c = record {
-  read = no_term c.args.left c.args.line.now c.args.pos c.in-ok-found.found
-      c.in-ok-found.ensures c.requires.within c.in-Closing.is;
+  read = no_term c.args.left c.args.line.now c.args.pos c.in_ok-found.found
+      c.in_ok-found.ensures c.requires.within c.in-Closing.is;
   fitted = tt;
   same-room = refl;
 }
@@ -451,21 +451,21 @@ terms-loop-end-init t c = (
   none_yet,
 )
 
-pub terms-returns-in-err-end : goal.terms-returns-in-err-end
-terms-returns-in-err-end t c =
-    let p = err_from_is_err_and c.from-residual.result c.from-residual.ensures.1 in
+pub terms-returns-in_err-end : goal.terms-returns-in_err-end
+terms-returns-in_err-end t c =
+    let p = err_from_is_err_and c.from_residual.result c.from_residual.ensures.1 in
     rw (p.1, p.2) (record {
-      read = none_more c.loop-end.invariant.4 c.in-err-end.ensures.read;
+      read = none_more c.loop-end.invariant.4 c.in_err-end.ensures.read;
       fitted = tt;
       same-room = c.term.ensures.same-room ∙ c.loop-end.invariant.3;
     })
 
 pub terms-loop-end-preserved : goal.terms-loop-end-preserved
 terms-loop-end-preserved t c =
-    let h = c.in-ok-end.ensures in
+    let h = c.in_ok-end.ensures in
     let k = c.in-Comma.ensures in
     let i = k.inside in
-    let w = c.run-end-next.ensures.within.0 in
+    let w = c.run_end-next.ensures.within.0 in
     let f = h.fitted in
     let v = h.read.forward in
     let a = c.loop-end.invariant.0 in
@@ -474,18 +474,18 @@ terms-loop-end-preserved t c =
       omega arith,
       omega arith,
       c.term.ensures.same-room ∙ c.loop-end.invariant.3,
-      one_more c.run-end-next.result c.loop-end.invariant.4 h.read c.run-end-next.ensures.value k.value,
+      one_more c.run_end-next.result c.loop-end.invariant.4 h.read c.run_end-next.ensures.value k.value,
     )
 
-pub terms-returns-in-default : goal.terms-returns-in-default
-terms-returns-in-default t c =
-    let h = c.in-ok-end.ensures in
+pub terms-returns-in_default : goal.terms-returns-in_default
+terms-returns-in_default t c =
+    let h = c.in_ok-end.ensures in
     let f = h.fitted in
     let a = c.loop-end.invariant.0 in
     let b = c.loop-end.invariant.2 in
     record {
-      read = the_last c.run-end-next.result c.loop-end.invariant.4 h.read c.run-end-next.ensures.value
-          (λ e. c.in-default.not-Comma (c.kind-at.ensures.value ∙ e)) (omega arith) refl refl;
+      read = the_last c.run_end-next.result c.loop-end.invariant.4 h.read c.run_end-next.ensures.value
+          (λ e. c.in_default.not-Comma (c.kind_at.ensures.value ∙ e)) (omega arith) refl refl;
       fitted = omega arith;
       same-room = c.term.ensures.same-room ∙ c.loop-end.invariant.3;
     }

@@ -11,7 +11,7 @@ again_one xs ys zs n o h e =
 
 pub loop-preserved : goal.loop-preserved
 loop-preserved c = (
-  again_one _ _ _ c.loop.counter c.args.op c.loop.invariant.0 c.push-reserved.ensures.items,
+  again_one _ _ _ c.loop.counter c.args.op c.loop.invariant.0 c.push_reserved.ensures.items,
   omega arith,
-  c.push-reserved.ensures.capacity ∙ c.loop.invariant.2,
+  c.push_reserved.ensures.capacity ∙ c.loop.invariant.2,
 )

@@ -33,7 +33,7 @@ pub returns-in-Ok : goal.returns-in-Ok
 returns-in-Ok c = closed_name c.args.line.now c.args.at c.args.left _ (omega arith)
     c.in-Quote.ensures.value c.in-Ok.ensures
 
-pub returns-in-default : goal.returns-in-default
-returns-in-default c =
-    misplaced c.args.line.now c.args.at c.args.left c.kind-at.result
-    (sym c.kind-at.ensures.value) c.in-default.not-Quote c.in-default.not-Stray
+pub returns-in_default : goal.returns-in_default
+returns-in_default c =
+    misplaced c.args.line.now c.args.at c.args.left c.kind_at.result
+    (sym c.kind_at.ensures.value) c.in_default.not-Quote c.in_default.not-Stray

@@ -14,7 +14,7 @@ loop-at-smaller g c =
     let row = (g.S.RuleStore.meaning c.args.store.now).row c.args.indicator.name c.args.indicator.arity in
     let less = walked_within row (vec_items c.loop-at.out) (vec_len c.loop-at.out) c.in-Some.label
     c.loop-at.at c.loop-at.invariant c.in-Some.is in
-    let more = c.in-ok-push.ensures.len in
+    let more = c.in_ok-push.ensures.len in
     omega arith
 
 pub loop-at-preserved : goal.loop-at-preserved
@@ -23,11 +23,11 @@ loop-at-preserved g c =
     walked_more row (vec_items c.loop-at.out) (vec_items c.push.new.self) (vec_len c.loop-at.out)
     (vec_len c.push.new.self) c.in-Some.label c.loop-at.at c.next-at-in-Some.result
     (c.next-at-in-Some.ensures.lawful.once c.args.indicator.name c.args.indicator.arity)
-    c.loop-at.invariant c.in-Some.is c.in-ok-push.ensures.items c.in-ok-push.ensures.len
+    c.loop-at.invariant c.in-Some.is c.in_ok-push.ensures.items c.in_ok-push.ensures.len
     c.next-at-in-Some.ensures.value
 
 pub returns : goal.returns
 returns g c =
     let row = (g.S.RuleStore.meaning c.args.store.now).row c.args.indicator.name c.args.indicator.arity in
     walked_all row (vec_items c.loop-at.out) (vec_len c.loop-at.out) c.loop-at.at c.loop-at.invariant
-    c.in-default.is
+    c.in_default.is

@@ -41,8 +41,8 @@ lay-requires t c =
     let inside = c.requires in
     (omega arith, omega arith)
 
-pub returns-in-err-place : goal.returns-in-err-place
-returns-in-err-place t c =
+pub returns-in_err-place : goal.returns-in_err-place
+returns-in_err-place t c =
     let s = c.args.source.now in
     let h = c.args.target.now in
     let e = read_as (row_nodes s) c.nodes.result.now c.args.at
@@ -50,19 +50,19 @@ returns-in-err-place t c =
     let few = app_arity (row_nodes s) s.before c.args.at c.requires _ _ _ e in
     let i = c.loop-k.invariant in
     let eight = c.argument.ensures.eight in
-    let none = subst (λ n. Laid (Reads c.passes-on-inner.result)
-    (λ ns. formed c.passes-on-inner.result (meaning ns (row_nodes s) c.argument.result)) n
+    let none = subst (λ n. Laid (Reads c.passes_on-inner.result)
+    (λ ns. formed c.passes_on-inner.result (meaning ns (row_nodes s) c.argument.result)) n
     (row_nodes c.loop-k.target) (row_nodes c.lay.new.target) None) i.0
-    c.in-err-place.ensures.laid in
+    c.in_err-place.ensures.laid in
     record {
       limit = c.lay.ensures.limit ∙ i.0;
       laid = subst (λ o. Laid (Reads c.args.goal)
           (λ ns. formed c.args.goal (meaning ns (row_nodes s) c.args.at)) (row_limit h) (row_nodes h)
-          (row_nodes c.lay.new.target) o) (sym c.from-residual.ensures)
-          (laid_short c.args.goal c.passes-on-inner.result (row_limit h) (row_nodes s) (row_nodes h)
+          (row_nodes c.lay.new.target) o) (sym c.from_residual.ensures)
+          (laid_short c.args.goal c.passes_on-inner.result (row_limit h) (row_nodes s) (row_nodes h)
           (row_nodes c.loop-k.target) (row_nodes c.lay.new.target) c.args.at c.in-App.name
           c.in-App.arity c.in-App.args c.loop-k.places c.loop-k.k c.argument.result s.before
-          c.requires e (omega arith) c.passes-on-inner.ensures c.loop-k-test.true c.argument.ensures.value
+          c.requires e (omega arith) c.passes_on-inner.ensures c.loop-k-test.true c.argument.ensures.value
           i.3 none);
     }
 
@@ -83,11 +83,11 @@ loop-k-preserved t c =
     let i = c.loop-k.invariant in
     let len = i.1 in
     let eight = c.argument.ensures.eight in
-    let more = part_more c.passes-on-inner.result (row_nodes s) (row_nodes c.args.target.now)
+    let more = part_more c.passes_on-inner.result (row_nodes s) (row_nodes c.args.target.now)
     (row_nodes c.loop-k.target) (row_nodes c.lay.new.target) c.in-App.args c.loop-k.places
-    c.loop-k.k c.argument.result c.in-ok-place.place (omega arith) (omega arith)
-    c.argument.ensures.value i.3 c.in-ok-place.ensures.laid in
-    let eight' = length-set c.loop-k.places c.loop-k.k c.in-ok-place.place ∙ i.1 in
+    c.loop-k.k c.argument.result c.in_ok-place.place (omega arith) (omega arith)
+    c.argument.ensures.value i.3 c.in_ok-place.ensures.laid in
+    let eight' = length-set c.loop-k.places c.loop-k.k c.in_ok-place.place ∙ i.1 in
     (c.lay.ensures.limit ∙ i.0, eight', omega arith, more)
 
 pub returns-after-loop-k : goal.returns-after-loop-k
@@ -102,10 +102,10 @@ returns-after-loop-k t c =
     let x = App c.in-App.name c.in-App.arity c.loop-k.places in
     record {
       limit = c.push.ensures.limit ∙ i.0;
-      laid = laid_app c.args.goal c.passes-on-inner.result (row_limit h) (row_nodes s) (row_nodes h)
+      laid = laid_app c.args.goal c.passes_on-inner.result (row_limit h) (row_nodes s) (row_nodes h)
           (row_nodes c.loop-k.target) (row_nodes c.push.new.self) c.args.at c.in-App.name
           c.in-App.arity c.in-App.args c.loop-k.places c.loop-k.k c.push.result s.before
-          c.requires e (omega arith) few c.passes-on-inner.ensures (omega arith) i.3
+          c.requires e (omega arith) few c.passes_on-inner.ensures (omega arith) i.3
           (c.push.ensures.place ∙ ap (λ n. place_for n (row_nodes c.loop-k.target) x) i.0)
           (c.push.ensures.items ∙ ap (λ n. with_node n (row_nodes c.loop-k.target) x) i.0);
     }
@@ -117,9 +117,9 @@ returns-in-Var t c =
     let x = get_or c.nodes.result.now c.args.at no_node in
     let leaf : is_leaf x ≡ true = search rules in
     record {
-      limit = c.lay-leaf.ensures.limit;
-      laid = laid_at c.args.goal (row_limit h) (row_nodes s) (row_nodes h) (row_nodes c.lay-leaf.new.target)
-          c.args.at x c.lay-leaf.result s.before c.requires
+      limit = c.lay_leaf.ensures.limit;
+      laid = laid_at c.args.goal (row_limit h) (row_nodes s) (row_nodes h) (row_nodes c.lay_leaf.new.target)
+          c.args.at x c.lay_leaf.result s.before c.requires
           (read_as (row_nodes s) c.nodes.result.now c.args.at x c.nodes.ensures refl) leaf
-          c.lay-leaf.ensures.laid;
+          c.lay_leaf.ensures.laid;
     }

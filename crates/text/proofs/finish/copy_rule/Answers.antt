@@ -15,39 +15,39 @@ use Rattle.text.proofs.FinishingProperties.{
 }
 use Rattle.text.proofs.finish.copy_rule.Goals as goal
 
-pub returns-in-default : goal.returns-in-default
-returns-in-default c = record {
+pub returns-in_default : goal.returns-in_default
+returns-in_default c = record {
   copied = λ text first head body ns b places tabled empty limit.
       let h = c.args.builder.now in
       let nodes = row_nodes h.row in
       let two = built_two text first head body ns nodes (vec_items h.stack) c.args.head c.args.body
       (vec_items h.variables) places b in
       let one = copy_moved Any (λ t. t) (row_nodes c.row.result.now) nodes c.args.head (row_limit c.args.row.now) 256
-      (row_nodes c.args.row.now) [] (row_nodes c.copy-term.new.target) None (ap row_nodes c.row.ensures) limit empty
-      c.in-default.ensures.copy in
-      head_refused first head body ns nodes (row_nodes c.copy-term.new.target) c.args.head c.args.body two one;
+      (row_nodes c.args.row.now) [] (row_nodes c.copy_term.new.target) None (ap row_nodes c.row.ensures) limit empty
+      c.in_default.ensures.copy in
+      head_refused first head body ns nodes (row_nodes c.copy_term.new.target) c.args.head c.args.body two one;
   limit = cc;
 }
 
-pub returns-in-Some-copy-goal : goal.returns-in-Some-copy-goal
-returns-in-Some-copy-goal c = record {
+pub returns-in-Some-copy_goal : goal.returns-in-Some-copy_goal
+returns-in-Some-copy_goal c = record {
   copied = λ text first head body ns b places tabled empty limit.
       let h = c.args.builder.now in
       let nodes = row_nodes h.row in
-      let mid = c.copy-term.new.target in
-      let after = c.copy-goal.new.target in
+      let mid = c.copy_term.new.target in
+      let after = c.copy_goal.new.target in
       let two = built_two text first head body ns nodes (vec_items h.stack) c.args.head c.args.body
       (vec_items h.variables) places b in
       let one = copy_moved Any (λ t. t) (row_nodes c.row.result.now) nodes c.args.head (row_limit c.args.row.now) 256
       (row_nodes c.args.row.now) [] (row_nodes mid) (Some c.in-Some.first) (ap row_nodes c.row.ensures) limit empty
       c.in-Some.ensures.copy in
       let other = copy_moved Standard goal_form (row_nodes c.row-2.result.now) nodes c.args.body (row_limit mid) 256
-      (row_nodes mid) (row_nodes mid) (row_nodes after) (Some c.in-Some-copy-goal.second) (ap row_nodes c.row-2.ensures)
-      (c.copy-term.ensures.limit ∙ limit) refl c.in-Some-copy-goal.ensures.copy in
+      (row_nodes mid) (row_nodes mid) (row_nodes after) (Some c.in-Some-copy_goal.second) (ap row_nodes c.row-2.ensures)
+      (c.copy_term.ensures.limit ∙ limit) refl c.in-Some-copy_goal.ensures.copy in
       let few : length (row_nodes after) ≤ 256
-      = (let l = row_nodes_few after in let m = c.copy-goal.ensures.limit ∙ c.copy-term.ensures.limit ∙ limit in omega arith) in
+      = (let l = row_nodes_few after in let m = c.copy_goal.ensures.limit ∙ c.copy_term.ensures.limit ∙ limit in omega arith) in
       rule_copied first head body ns nodes (row_nodes mid) (row_nodes after) c.args.head c.args.body c.in-Some.first
-      c.in-Some-copy-goal.second (length c.variables.result.now) b.fits tabled two
+      c.in-Some-copy_goal.second (length c.variables.result.now) b.fits tabled two
       (ap length c.variables.ensures ∙ built_variables text first (body ∷ head ∷ []) ns nodes (vec_items h.stack)
       (vec_items h.variables) b) one other few;
   limit = cc;
@@ -58,8 +58,8 @@ returns-in-None c = record {
   copied = λ text first head body ns b places tabled empty limit.
       let h = c.args.builder.now in
       let nodes = row_nodes h.row in
-      let mid = c.copy-term.new.target in
-      let after = c.copy-goal.new.target in
+      let mid = c.copy_term.new.target in
+      let after = c.copy_goal.new.target in
       let two = built_two text first head body ns nodes (vec_items h.stack) c.args.head c.args.body
       (vec_items h.variables) places b in
       let one = copy_moved Any (λ t. t) (row_nodes c.row.result.now) nodes c.args.head (row_limit c.args.row.now) 256
@@ -67,7 +67,7 @@ returns-in-None c = record {
       c.in-Some.ensures.copy in
       let other = copy_moved Standard goal_form (row_nodes c.row-2.result.now) nodes c.args.body (row_limit mid) 256
       (row_nodes mid) (row_nodes mid) (row_nodes after) None (ap row_nodes c.row-2.ensures)
-      (c.copy-term.ensures.limit ∙ limit) refl c.in-None.ensures.copy in
+      (c.copy_term.ensures.limit ∙ limit) refl c.in-None.ensures.copy in
       body_refused first head body ns nodes (row_nodes mid) (row_nodes after) c.args.head c.args.body c.in-Some.first
       tabled two one other;
   limit = cc;

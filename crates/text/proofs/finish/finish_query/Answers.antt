@@ -29,7 +29,7 @@ returns-in-Some c = record {
   finished = λ text first goal ns b tabled empty limit.
       let h = c.args.builder.now in
       let nodes = row_nodes h.row in
-      let after = c.copy-goal.new.target in
+      let after = c.copy_goal.new.target in
       let p = get_or c.stack-places.result.now 0 0 in
       let at = built_one text first goal ns nodes (vec_items h.stack) p (vec_items h.variables)
       (sym c.stack-places.ensures ∙ one_place c.stack-places.result.now c.if-places-ne1.false) b in
@@ -37,7 +37,7 @@ returns-in-Some c = record {
       (row_nodes c.args.row.now) [] (row_nodes after) (Some c.in-Some.goal) (ap row_nodes c.row.ensures) limit empty
       c.in-Some.ensures.copy in
       let few : length (row_nodes after) ≤ 256
-      = (let l = row_nodes_few after in let m = c.copy-goal.ensures.limit ∙ limit in omega arith) in
+      = (let l = row_nodes_few after in let m = c.copy_goal.ensures.limit ∙ limit in omega arith) in
       query_copied first goal ns nodes (row_nodes after) p c.in-Some.goal (length c.variables.result.now) b.fits tabled
       at.1
       (ap length c.variables.ensures ∙ built_variables text first (goal ∷ []) ns nodes (vec_items h.stack)
@@ -50,7 +50,7 @@ returns-in-None c = record {
   finished = λ text first goal ns b tabled empty limit.
       let h = c.args.builder.now in
       let nodes = row_nodes h.row in
-      let after = c.copy-goal.new.target in
+      let after = c.copy_goal.new.target in
       let p = get_or c.stack-places.result.now 0 0 in
       let at = built_one text first goal ns nodes (vec_items h.stack) p (vec_items h.variables)
       (sym c.stack-places.ensures ∙ one_place c.stack-places.result.now c.if-places-ne1.false) b in

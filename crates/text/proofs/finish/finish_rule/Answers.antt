@@ -25,13 +25,13 @@ returns-then-places-ne2 c = record {
   limit = cc;
 }
 
-pub returns-in-err-rule : goal.returns-in-err-rule
-returns-in-err-rule c = record {
+pub returns-in_err-rule : goal.returns-in_err-rule
+returns-in_err-rule c = record {
   finished = λ text first head body ns b tabled empty limit.
       let both = sym c.stack-places.ensures ∙ two_places c.stack-places.result.now c.if-places-ne2.false in
-      let p = err_from_is_err_and c.from-residual.result c.from-residual.ensures.1 in
-      let P : Result RuleText TextFault → Type 0 = λ r. RuleFinished first head body ns (row_nodes c.copy-rule.new.row) r in
-      subst P (sym (p.1 ∙ ap Err p.2)) (c.in-err-rule.ensures.copied text first head body ns b both tabled empty limit);
+      let p = err_from_is_err_and c.from_residual.result c.from_residual.ensures.1 in
+      let P : Result RuleText TextFault → Type 0 = λ r. RuleFinished first head body ns (row_nodes c.copy_rule.new.row) r in
+      subst P (sym (p.1 ∙ ap Err p.2)) (c.in_err-rule.ensures.copied text first head body ns b both tabled empty limit);
   limit = cc;
 }
 
@@ -44,11 +44,11 @@ returns-in-Some c = record {
       let q = get_or c.stack-places.result.now 1 0 in
       let both = sym c.stack-places.ensures ∙ two_places c.stack-places.result.now c.if-places-ne2.false in
       let two = built_two text first head body ns nodes (vec_items h.stack) p q (vec_items h.variables) both b in
-      let copied = c.in-ok-rule.ensures.copied text first head body ns b both tabled empty limit in
+      let copied = c.in_ok-rule.ensures.copied text first head body ns b both tabled empty limit in
       let is = ap row_nodes c.row.ensures in
       let P : List Node → Type 0 = λ xs. Eight (node_at xs p) in
       let fault = c.in-Some.ensures.fault ∙ ap (λ xs. nodes_fault xs p q) is
-      ∙ rule_fault head body ns nodes p q two tabled (row_nodes_fitting h.row) (subst P is c.places-fault.ensures.eight) in
+      ∙ rule_fault head body ns nodes p q two tabled (row_nodes_fitting h.row) (subst P is c.places_fault.ensures.eight) in
       (copied.fits, sym fault);
   limit = cc;
 }
@@ -62,11 +62,11 @@ returns-in-None c = record {
       let q = get_or c.stack-places.result.now 1 0 in
       let both = sym c.stack-places.ensures ∙ two_places c.stack-places.result.now c.if-places-ne2.false in
       let two = built_two text first head body ns nodes (vec_items h.stack) p q (vec_items h.variables) both b in
-      let copied = c.in-ok-rule.ensures.copied text first head body ns b both tabled empty limit in
+      let copied = c.in_ok-rule.ensures.copied text first head body ns b both tabled empty limit in
       let is = ap row_nodes c.row.ensures in
       let P : List Node → Type 0 = λ xs. Eight (node_at xs p) in
       let fault = c.in-None.ensures.fault ∙ ap (λ xs. nodes_fault xs p q) is
-      ∙ rule_fault head body ns nodes p q two tabled (row_nodes_fitting h.row) (subst P is c.places-fault.ensures.eight) in
+      ∙ rule_fault head body ns nodes p q two tabled (row_nodes_fitting h.row) (subst P is c.places_fault.ensures.eight) in
       (copied, sym fault);
   limit = cc;
 }

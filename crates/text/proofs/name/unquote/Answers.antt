@@ -5,10 +5,10 @@ use Rattle.tokens.specs.Bytes.{quote}
 use Rattle.tokens.specs.Scanning.{undouble}
 use Rattle.text.proofs.UndoubleProperties.{undouble_opened, undouble_written, undouble_longer, undouble_end}
 use Rattle.text.proofs.name.unquote.Goals as goal
-use Rattle.text.proofs.name.unquote.Goals.{then-not-half+else-len-ge-MAX-NAME, else-not-half}
+use Rattle.text.proofs.name.unquote.Goals.{then-not-half+else-len-ge-MAX_NAME, else-not-half}
 
-pub returns-then-len-ge-MAX-NAME : goal.returns-then-len-ge-MAX-NAME
-returns-then-len-ge-MAX-NAME c =
+pub returns-then-len-ge-MAX_NAME : goal.returns-then-len-ge-MAX_NAME
+returns-then-len-ge-MAX_NAME c =
     let s = c.args.inside.now in
     let xs = vec_items c.loop-byte.buffer in
     let inv = c.loop-byte.invariant in
@@ -30,14 +30,14 @@ loop-byte-preserved c =
     let inv = c.loop-byte.invariant in
     let o = c.opens-half.ensures in
     elim c.if-not-half.branch [
-      | then-not-half+else-len-ge-MAX-NAME w ↦ (
+      | then-not-half+else-len-ge-MAX_NAME w ↦ (
           let left : c.opens-half.result ≡ false = w.if-not-half.true in
-          let n = ap vec_len w.buffer-is ∙ w.push-reserved.ensures.len in (
+          let n = ap vec_len w.buffer-is ∙ w.push_reserved.ensures.len in (
             omega arith,
-            ap vec_capacity w.buffer-is ∙ w.push-reserved.ensures.capacity ∙ inv.1,
+            ap vec_capacity w.buffer-is ∙ w.push_reserved.ensures.capacity ∙ inv.1,
             ap (λ h. vec_items c.if-not-half.buffer ++ undouble h (drop (i + 1) s)) left
                 ∙ ap (λ ys. ys ++ undouble false (drop (i + 1) s))
-                (ap vec_items w.buffer-is ∙ w.push-reserved.ensures.items)
+                (ap vec_items w.buffer-is ∙ w.push_reserved.ensures.items)
                 ∙ undouble_written xs s u i c.loop-byte.half c.loop-byte-test.true (sym o ∙ left) inv.2,
           ))
       | else-not-half w ↦ (

@@ -19,7 +19,7 @@ returns-then-eq c =
     let i = c.loop-number.number in
     let d = slice_eq-Decides Decides-eqb c.part.result.now a c.eq.result c.eq.ensures in
     let e = d.0 c.if-eq.true in
-    let other : is_lone a ≡ false = sym c.if-is-lone.ensures in
+    let other : is_lone a ≡ false = sym c.if-is_lone.ensures in
     sym (found_here i text ss none a c.loop-number-test.true (sym c.part.ensures ∙ e)) ∙ c.loop-number.invariant
     ∙ sym (ap (λ b. cond b None (found_from 0 (cuts text ss) a)) other)
 
@@ -38,6 +38,6 @@ returns c =
     let ss = c.args.variables.now in
     let text = c.args.text.now in
     let a = c.args.name.now in
-    let other : is_lone a ≡ false = sym c.if-is-lone.ensures in
+    let other : is_lone a ≡ false = sym c.if-is_lone.ensures in
     sym (found_end c.loop-number.number text ss a c.loop-number-test.false) ∙ c.loop-number.invariant
     ∙ sym (ap (λ b. cond b None (found_from 0 (cuts text ss) a)) other)

@@ -11,7 +11,7 @@ found : (c : goal.In-Some)
     → Some c.in-Some.known ≡ found_in (cuts c.args.text.now (vec_items c.args.variables.now)) c.part-name.result.now
 found c =
     c.in-Some.ensures
-    ∙ ap (λ ss. found_in (cuts c.args.text.now ss) c.part-name.result.now) c.as-slice.ensures.value
+    ∙ ap (λ ss. found_in (cuts c.args.text.now ss) c.part-name.result.now) c.as_slice.ensures.value
 
 pub overflow-cast-result : goal.overflow-cast-result
 overflow-cast-result c =
@@ -32,11 +32,11 @@ returns-in-Some c =
       value = (old.0 ∙ ap (number_of e) a, old.1 ∙ ap (meets e) a);
     }
 
-pub returns-then-next-ge-MAX-VARIABLES : goal.returns-then-next-ge-MAX-VARIABLES
-returns-then-next-ge-MAX-VARIABLES c =
+pub returns-then-next-ge-MAX_VARIABLES : goal.returns-then-next-ge-MAX_VARIABLES
+returns-then-next-ge-MAX_VARIABLES c =
     let e = cuts c.args.text.now (vec_items c.args.variables.now) in
-    let new = number_new e c.part-name.result.now (c.in-default.ensures
-    ∙ ap (λ ss. found_in (cuts c.args.text.now ss) c.part-name.result.now) c.as-slice.ensures.value) in
+    let new = number_new e c.part-name.result.now (c.in_default.ensures
+    ∙ ap (λ ss. found_in (cuts c.args.text.now ss) c.part-name.result.now) c.as_slice.ensures.value) in
     let more = ap length (new.1 ∙ ap (meets e) c.part-name.ensures) in
     let one = length_push e c.part-name.result.now in
     let all = length_cuts c.args.text.now (vec_items c.args.variables.now) in
@@ -48,17 +48,17 @@ returns c =
     let ss = vec_items c.args.variables.now in
     let e = cuts text ss in
     let a = c.part-name.ensures in
-    let new = number_new e c.part-name.result.now (c.in-default.ensures
-    ∙ ap (λ ss. found_in (cuts text ss) c.part-name.result.now) c.as-slice.ensures.value) in
+    let new = number_new e c.part-name.result.now (c.in_default.ensures
+    ∙ ap (λ ss. found_in (cuts text ss) c.part-name.result.now) c.as_slice.ensures.value) in
     let all = length_cuts text ss in
     let next : c.len-next.result ≡ length e = omega arith in
     let here : Span = record { start = c.args.start; end = c.args.end } in
     record {
-      same-room = c.push-reserved.ensures.capacity;
-      still-few = (let n = c.push-reserved.ensures.len in omega arith);
+      same-room = c.push_reserved.ensures.capacity;
+      still-few = (let n = c.push_reserved.ensures.len in omega arith);
       value = (
         next ∙ new.0 ∙ ap (number_of e) a,
-        ap (cuts text) c.push-reserved.ensures.items ∙ cuts_push text ss here
+        ap (cuts text) c.push_reserved.ensures.items ∙ cuts_push text ss here
             ∙ ap (λ x. e ++ x ∷ []) (sym a) ∙ new.1 ∙ ap (meets e) a,
       );
     }

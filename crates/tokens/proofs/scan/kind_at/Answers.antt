@@ -4,8 +4,8 @@ use Rattle.tokens.proofs.scan.kind_at.Goals as goal
 
 pub returns-then-at-line : goal.returns-then-at-line
 returns-then-at-line c = record {
-  value = c.kind-of.ensures ∙ sym (head_here c.args.line.now c.args.at (omega arith));
-  inside = inside_here c.kind-of.result c.args.line.now c.args.at (omega arith);
+  value = c.kind_of.ensures ∙ sym (head_here c.args.line.now c.args.at (omega arith));
+  inside = inside_here c.kind_of.result c.args.line.now c.args.at (omega arith);
 }
 
 pub returns-else-at-line : goal.returns-else-at-line

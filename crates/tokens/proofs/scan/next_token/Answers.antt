@@ -10,12 +10,12 @@ use Rattle.tokens.proofs.BytesProperties.{drop_here, head_here, drop_past_the_en
 use Rattle.tokens.proofs.ScanningProperties.{past_the_run}
 use Rattle.tokens.proofs.scan.next_token.Goals as goal
 
-pub token-at-requires : goal.token-at-requires
-token-at-requires c =
+pub token_at-requires : goal.token_at-requires
+token_at-requires c =
     let line = c.args.line.now in
-    let i = c.run-end-start.result in
+    let i = c.run_end-start.result in
     let h = c.if-start-line.true in
-    let v = sym c.run-end-start.ensures.value ∙ drop_here line i h in
+    let v = sym c.run_end-start.ensures.value ∙ drop_here line i h in
     (h, λ e. false_true (sym (past_the_run space (drop c.args.pos line) (drop (i + 1) line) (get_or line i 0) v) ∙ space_by_kind (get_or line i 0) (sym (head_here line i h) ∙ e)))
 
 -- a token at its start is the token behind the spaces before it
@@ -25,14 +25,14 @@ behind_spaces line pos start (Err (fault.Stray p)) e l h = (ap (λ n. drop n lin
 behind_spaces line pos start (Err (fault.Unclosed p)) e l h = (h.0, ap (scan spaced) (sym e) ∙ h.1)
 
 pub returns-then-start-line : goal.returns-then-start-line
-returns-then-start-line c = behind_spaces c.args.line.now c.args.pos c.run-end-start.result c.token-at.result c.run-end-start.ensures.value c.run-end-start.ensures.within.0 c.token-at.ensures
+returns-then-start-line c = behind_spaces c.args.line.now c.args.pos c.run_end-start.result c.token_at.result c.run_end-start.ensures.value c.run_end-start.ensures.within.0 c.token_at.ensures
 
 pub returns-else-start-line : goal.returns-else-start-line
 returns-else-start-line c =
     let line = c.args.line.now in
     let n = length line in
-    let i = c.run-end-start.result in (
+    let i = c.run_end-start.result in (
       record { is = ap (scan spaced) (drop_past_the_end line n (omega arith)); holds = tt; long = (refl, refl); within = omega arith },
-      drop_past_the_end line n (omega arith) ∙ sym (drop_past_the_end line i (omega arith)) ∙ c.run-end-start.ensures.value,
+      drop_past_the_end line n (omega arith) ∙ sym (drop_past_the_end line i (omega arith)) ∙ c.run_end-start.ensures.value,
       λ h. h,
     )

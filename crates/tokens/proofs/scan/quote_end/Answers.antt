@@ -11,8 +11,8 @@ at_place line pos i h = let e : pos + (i - pos) ≡ i = omega arith in drop-drop
 next_place : (line : List ℕ) (pos i : ℕ) → pos ≤ i → drop (i - pos + 1) (drop pos line) ≡ drop (i + 1) line
 next_place line pos i h = let e : pos + (i - pos + 1) ≡ i + 1 = omega arith in drop-drop (i - pos + 1) pos line ∙ ap (λ n. drop n line) e
 
-pub loop-i-preserved-then-not-quote-at : goal.loop-i-preserved-then-not-quote-at
-loop-i-preserved-then-not-quote-at c =
+pub loop-i-preserved-then-not-quote_at : goal.loop-i-preserved-then-not-quote_at
+loop-i-preserved-then-not-quote_at c =
     let line = c.args.line.now in
     let pos = c.args.pos in
     let i = c.loop-i.i in
@@ -22,7 +22,7 @@ loop-i-preserved-then-not-quote-at c =
       omega arith,
       omega arith,
       subst (λ m. Reading (drop pos line) m) (sym e)
-          (reading_plain (drop pos line) (i - pos) (omega arith) (ap quote_at (at_place line pos i l) ∙ sym c.if-not-quote-at.ensures.value) c.loop-i.invariant.2),
+          (reading_plain (drop pos line) (i - pos) (omega arith) (ap quote_at (at_place line pos i l) ∙ sym c.if-not-quote_at.ensures.value) c.loop-i.invariant.2),
     )
 
 pub loop-i-preserved : goal.loop-i-preserved
@@ -32,17 +32,17 @@ loop-i-preserved c =
     let i = c.loop-i.i in
     let l = c.loop-i.invariant.0 in
     let k = length-drop pos line in
-    let h = c.if-quote-at.ensures.inside refl in
+    let h = c.if-quote_at.ensures.inside refl in
     let e : i + 2 - pos ≡ i - pos + 2 = omega arith in (
       omega arith,
       omega arith,
       subst (λ m. Reading (drop pos line) m) (sym e)
-          (reading_doubled (drop pos line) (i - pos) (omega arith) (ap quote_at (at_place line pos i l) ∙ sym c.if-not-quote-at.ensures.value)
-          (ap quote_at (next_place line pos i l) ∙ sym c.if-quote-at.ensures.value) c.loop-i.invariant.2),
+          (reading_doubled (drop pos line) (i - pos) (omega arith) (ap quote_at (at_place line pos i l) ∙ sym c.if-not-quote_at.ensures.value)
+          (ap quote_at (next_place line pos i l) ∙ sym c.if-quote_at.ensures.value) c.loop-i.invariant.2),
     )
 
-pub returns-else-quote-at : goal.returns-else-quote-at
-returns-else-quote-at c =
+pub returns-else-quote_at : goal.returns-else-quote_at
+returns-else-quote_at c =
     let line = c.args.line.now in
     let pos = c.args.pos in
     let i = c.loop-i.i in
@@ -51,8 +51,8 @@ returns-else-quote-at c =
     let e : i - pos ≡ i + 1 - 1 - pos = omega arith in (
       omega arith,
       omega arith,
-      reading_closed (drop pos line) (i - pos) (omega arith) (ap quote_at (at_place line pos i l) ∙ sym c.if-not-quote-at.ensures.value)
-          (ap quote_at (next_place line pos i l) ∙ sym c.if-quote-at.ensures.value) c.loop-i.invariant.2
+      reading_closed (drop pos line) (i - pos) (omega arith) (ap quote_at (at_place line pos i l) ∙ sym c.if-not-quote_at.ensures.value)
+          (ap quote_at (next_place line pos i l) ∙ sym c.if-quote_at.ensures.value) c.loop-i.invariant.2
           ∙ ap (λ m. got (name (undouble false (take m (drop pos line)))) (drop (i - pos + 1) (drop pos line))) e
           ∙ ap (λ r. got (name (undouble false (take (i + 1 - 1 - pos) (drop pos line)))) r) (next_place line pos i l),
     )

@@ -12,15 +12,15 @@ never_closed : (line : List ℕ) (start : ℕ) (e : TokenFault) → start < leng
 never_closed line start (fault.Stray p) l k h = absurd h
 never_closed line start (fault.Unclosed p) l k h = (h.0, scan_by_kind line start spaced Quote l k ∙ h.1)
 
-pub returns-in-err-end : goal.returns-in-err-end
-returns-in-err-end c =
-    let p = err_from_is_err_and c.from-residual.result c.from-residual.ensures.1 in
+pub returns-in_err-end : goal.returns-in_err-end
+returns-in_err-end c =
+    let p = err_from_is_err_and c.from_residual.result c.from_residual.ensures.1 in
     subst (λ r. StartsAs c.args.line.now c.args.start r) (sym (p.1 ∙ ap Err p.2))
-    (never_closed c.args.line.now c.args.start _ c.requires.0 c.requires.1 c.in-err-end.ensures)
+    (never_closed c.args.line.now c.args.start _ c.requires.0 c.requires.1 c.in_err-end.ensures)
 
 pub returns : goal.returns
 returns c =
     let line = c.args.line.now in
     let start = c.args.start in
-    let h = c.in-ok-end.ensures in
+    let h = c.in_ok-end.ensures in
     (record { is = scan_by_kind line start spaced Quote c.requires.0 c.requires.1 ∙ h.2; holds = (omega arith, refl); long = omega arith; within = h.1 }, refl)

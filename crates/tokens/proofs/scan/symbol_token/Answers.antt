@@ -27,18 +27,18 @@ signed line i e l u y x v m =
 unsigned : (bs r : List ℕ) → false ≡ same bs minus_bytes && digit_at r → symbols_before bs r ≡ got (run bs) r
 unsigned bs r m = ap (λ b. cond b (got (integer (bs ++ longest digit r)) (past digit r)) (got (run bs) r)) (sym m)
 
-pub returns-then-is-sign : goal.returns-then-is-sign
-returns-then-is-sign c =
+pub returns-then-is_sign : goal.returns-then-is_sign
+returns-then-is_sign c =
     let line = c.args.line.now in
     let i = c.args.start in
-    let e = c.run-end-end.result in
-    let l = c.run-end-last.result in
-    let w : e ≤ length line = c.run-end-end.ensures.within.1 (omega arith) in
-    let u : i + 1 ≤ e = c.run-end-end.ensures.within.0 in
-    let x : l ≤ length line = c.run-end-last.ensures.within.1 w in
-    let y : e ≤ l = c.run-end-last.ensures.within.0 in (
+    let e = c.run_end-end.result in
+    let l = c.run_end-last.result in
+    let w : e ≤ length line = c.run_end-end.ensures.within.1 (omega arith) in
+    let u : i + 1 ≤ e = c.run_end-end.ensures.within.0 in
+    let x : l ≤ length line = c.run_end-last.ensures.within.1 w in
+    let y : e ≤ l = c.run_end-last.ensures.within.0 in (
       record {
-        is = symbols_at line i e c.requires.0 c.requires.1 c.run-end-end.ensures.value u w ∙ signed line i e l u y x c.run-end-last.ensures.value c.if-is-sign.ensures;
+        is = symbols_at line i e c.requires.0 c.requires.1 c.run_end-end.ensures.value u w ∙ signed line i e l u y x c.run_end-last.ensures.value c.if-is_sign.ensures;
         holds = refl;
         long = omega arith;
         within = x;
@@ -46,17 +46,17 @@ returns-then-is-sign c =
       refl,
     )
 
-pub returns-then-is-neck : goal.returns-then-is-neck
-returns-then-is-neck c =
+pub returns-then-is_neck : goal.returns-then-is_neck
+returns-then-is_neck c =
     let line = c.args.line.now in
     let i = c.args.start in
-    let e = c.run-end-end.result in
-    let w : e ≤ length line = c.run-end-end.ensures.within.1 (omega arith) in
-    let u : i + 1 ≤ e = c.run-end-end.ensures.within.0 in
+    let e = c.run_end-end.result in
+    let w : e ≤ length line = c.run_end-end.ensures.within.1 (omega arith) in
+    let u : i + 1 ≤ e = c.run_end-end.ensures.within.0 in
     let bs = take (e - i) (drop i line) in (
       record {
-        is = symbols_at line i e c.requires.0 c.requires.1 c.run-end-end.ensures.value u w ∙ unsigned bs (drop e line) c.if-is-sign.ensures
-            ∙ ap (λ b. got (cond b neck (name bs)) (drop e line)) (sym c.if-is-neck.ensures);
+        is = symbols_at line i e c.requires.0 c.requires.1 c.run_end-end.ensures.value u w ∙ unsigned bs (drop e line) c.if-is_sign.ensures
+            ∙ ap (λ b. got (cond b neck (name bs)) (drop e line)) (sym c.if-is_neck.ensures);
         holds = tt;
         long = omega arith;
         within = w;
@@ -64,17 +64,17 @@ returns-then-is-neck c =
       refl,
     )
 
-pub returns-else-is-neck : goal.returns-else-is-neck
-returns-else-is-neck c =
+pub returns-else-is_neck : goal.returns-else-is_neck
+returns-else-is_neck c =
     let line = c.args.line.now in
     let i = c.args.start in
-    let e = c.run-end-end.result in
-    let w : e ≤ length line = c.run-end-end.ensures.within.1 (omega arith) in
-    let u : i + 1 ≤ e = c.run-end-end.ensures.within.0 in
+    let e = c.run_end-end.result in
+    let w : e ≤ length line = c.run_end-end.ensures.within.1 (omega arith) in
+    let u : i + 1 ≤ e = c.run_end-end.ensures.within.0 in
     let bs = take (e - i) (drop i line) in (
       record {
-        is = symbols_at line i e c.requires.0 c.requires.1 c.run-end-end.ensures.value u w ∙ unsigned bs (drop e line) c.if-is-sign.ensures
-            ∙ ap (λ b. got (cond b neck (name bs)) (drop e line)) (sym c.if-is-neck.ensures);
+        is = symbols_at line i e c.requires.0 c.requires.1 c.run_end-end.ensures.value u w ∙ unsigned bs (drop e line) c.if-is_sign.ensures
+            ∙ ap (λ b. got (cond b neck (name bs)) (drop e line)) (sym c.if-is_neck.ensures);
         holds = refl;
         long = omega arith;
         within = w;

@@ -33,9 +33,9 @@ marked line i k t x f h g b o d l m = (
 one_byte : (line : List ℕ) (i : ℕ) → i < length line → take (i + 1 - i) (drop i line) ≡ get_or line i 0 ∷ []
 one_byte line i h = let n : i + 1 - i ≡ suc zero = omega arith in ap (λ n. take n (drop i line)) n ∙ ap (λ l. take (suc zero) l) (drop_here line i h)
 
-pub run-token-requires : goal.run-token-requires
-run-token-requires c =
-    let v = c.kind-at.ensures.value in (
+pub run_token-requires : goal.run_token-requires
+run_token-requires c =
+    let v = c.kind_at.ensures.value in (
       c.requires.0,
       elim c.in-Small.is [
         | inl e ↦ subst (λ k. RunKind k) (sym e ∙ v) small_begins

@@ -22,8 +22,8 @@ returns-then-len-self c =
       record { rules = refl; row = λ f a. refl; known = λ f a. refl; labels = refl; space = refl },
     )
 
-pub add-cell-requires : goal.add-cell-requires
-add-cell-requires c =
+pub add_cell-requires : goal.add_cell-requires
+add_cell-requires c =
     let s = c.args.self.now in
     let i = c.args.rule.indicator in
     let k = s.entries.ok.0 in
@@ -31,10 +31,10 @@ add-cell-requires c =
     let spare = s.spare in
     let small = s.small in
     let few = s.few in
-    let at = c.head-of-head.ensures.0 in
+    let at = c.head_of-head.ensures.0 in
     let l = head_less i in
     let b = besides_less (end_of c.args.side) s i in
-    let same : besides (end_of c.args.side) (vec_items s.links) c.head-of-head.result
+    let same : besides (end_of c.args.side) (vec_items s.links) c.head_of-head.result
     ≡ besides (end_of c.args.side) (vec_items s.links) (head i)
     = ap (besides (end_of c.args.side) (vec_items s.links)) at in
     (omega arith, omega arith, omega arith, omega arith)
@@ -45,14 +45,14 @@ invariant-of-self c =
     let r = c.args.rule in
     let at = c.len-start.result in
     let side = c.args.side in
-    let es = vec_items c.push-reserved.new.self in
-    let more = c.push-reserved.ensures.items in
+    let es = vec_items c.push_reserved.new.self in
+    let more = c.push_reserved.ensures.items in
     let ns = vec_items c.append.new.nodes in
-    let h = c.head-of-head.result in
-    let ms = vec_items c.add-cell.new.links in
+    let h = c.head_of-head.result in
+    let ms = vec_items c.add_cell.new.links in
     let start = c.len-start.ensures in
-    let head_is = c.head-of-head.ensures.0 in
-    let links = c.add-cell.ensures.links in
+    let head_is = c.head_of-head.ensures.0 in
+    let links = c.add_cell.ensures.links in
     let ordered = ordered_added s r at side start es more (vec_len c.append.new.nodes) c.append.ensures.len in
     let noted = flags_added s r at side start es more ns c.append.ensures.items h head_is in
     let after = after_added s r at side start es more h head_is ms links in
@@ -91,8 +91,8 @@ returns c =
     let r = c.args.rule in
     let at = c.len-start.result in
     let side = c.args.side in
-    let es = vec_items c.push-reserved.new.self in
-    let more = c.push-reserved.ensures.items in
+    let es = vec_items c.push_reserved.new.self in
+    let more = c.push_reserved.ensures.items in
     let ns = vec_items c.append.new.nodes in
     let count = rules_count s in
     let k = s.entries.ok.0 in

@@ -7,7 +7,7 @@ pub returns-then-label-len : goal.returns-then-label-len
 returns-then-label-len c =
     let es = vec_items c.args.self.now.entries in
     let i = c.args.indicator in
-    c.is-live-of.ensures
+    c.is_live_of.ensures
     ∙ sym (holds_row_of es i.name i.arity c.args.label
     ∙ live_at_entry es c.args.label i.name i.arity c.index.result.now (omega arith)
     c.index.ensures)

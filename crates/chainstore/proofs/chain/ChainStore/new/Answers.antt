@@ -8,21 +8,21 @@ use Rattle.chainstore.proofs.chain.ChainStore.new.Goals as goal
 
 pub invariant-of-result : goal.invariant-of-result
 invariant-of-result c =
-    let ns = c.in-ok-nodes.ensures in
-    let es = c.in-ok-entries.ensures in
-    let cap = c.in-ok-links.ensures.made in
-    let ls = vec_items c.add-heads.new.links in
-    let all : vec_items c.in-ok-known.known ≡ replicate 4608 false =
-    c.in-ok-known.ensures.items-if-clones-equal (λ y e. e) in
-    let linked = linked_alone ls c.add-heads.ensures.alone in
-    let flags = c.in-ok-known.ensures.len in
-    let ordered : laid 0 (vec_items c.in-ok-entries.entries) (vec_len c.in-ok-nodes.nodes) ≡ true
-    = ap (λ xs. laid 0 xs (vec_len c.in-ok-nodes.nodes)) es.items
-    ∙ eq-eqb 0 (vec_len c.in-ok-nodes.nodes) (sym ns.len) in
-    let noted : Noted (vec_items c.in-ok-known.known)
-    (values_of (vec_items c.in-ok-nodes.nodes) (vec_items c.in-ok-entries.entries))
-    = noted_fresh (vec_items c.in-ok-known.known) (vec_items c.in-ok-nodes.nodes)
-    (vec_items c.in-ok-entries.entries) all es.items in
+    let ns = c.in_ok-nodes.ensures in
+    let es = c.in_ok-entries.ensures in
+    let cap = c.in_ok-links.ensures.made in
+    let ls = vec_items c.add_heads.new.links in
+    let all : vec_items c.in_ok-known.known ≡ replicate 4608 false =
+    c.in_ok-known.ensures.items-if-clones-equal (λ y e. e) in
+    let linked = linked_alone ls c.add_heads.ensures.alone in
+    let flags = c.in_ok-known.ensures.len in
+    let ordered : laid 0 (vec_items c.in_ok-entries.entries) (vec_len c.in_ok-nodes.nodes) ≡ true
+    = ap (λ xs. laid 0 xs (vec_len c.in_ok-nodes.nodes)) es.items
+    ∙ eq-eqb 0 (vec_len c.in_ok-nodes.nodes) (sym ns.len) in
+    let noted : Noted (vec_items c.in_ok-known.known)
+    (values_of (vec_items c.in_ok-nodes.nodes) (vec_items c.in_ok-entries.entries))
+    = noted_fresh (vec_items c.in_ok-known.known) (vec_items c.in_ok-nodes.nodes)
+    (vec_items c.in_ok-entries.entries) all es.items in
     let after = subst (λ xs. After xs ls) (sym es.items) (linked_after [] ls linked) in
     let before = subst (λ xs. Before xs ls) (sym es.items) (linked_before [] ls linked) in (
       omega arith,

@@ -14,9 +14,9 @@ one_more old now after more i less e f =
 pub loop-node-preserved : goal.loop-node-preserved
 loop-node-preserved c = (
   one_more (vec_items c.args.nodes.now) (vec_items c.loop-node.nodes)
-      (vec_items c.push-reserved.new.self)
+      (vec_items c.push_reserved.new.self)
       c.args.more.now c.loop-node.node-index c.loop-node-test.true c.loop-node.invariant.0
-      c.push-reserved.ensures.items,
+      c.push_reserved.ensures.items,
   omega arith,
   omega arith,
 )

@@ -9,7 +9,7 @@ pub loop-head-preserved : goal.loop-head-preserved
 loop-head-preserved c =
     let n = c.loop-head.head in
     let cell : Link = record { before = n; after = n } in (
-      subst (λ ls. Alone (n + 1) ls) (sym c.push-reserved.ensures.items)
+      subst (λ ls. Alone (n + 1) ls) (sym c.push_reserved.ensures.items)
           (alone_push n (vec_items c.loop-head.links) cell (omega arith) refl refl c.loop-head.invariant.0),
       omega arith,
       omega arith,

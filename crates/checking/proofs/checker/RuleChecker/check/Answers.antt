@@ -11,20 +11,20 @@ use Rattle.checking.specs.Lines.{problem_of}
 use Rattle.checking.proofs.LinesProperties.{kept_whole}
 use Rattle.checking.proofs.checker.RuleChecker.check.Goals as goal
 
-pub returns-in-err-rule : goal.returns-in-err-rule
-returns-in-err-rule c = λ s k.
+pub returns-in_err-rule : goal.returns-in_err-rule
+returns-in_err-rule c = λ s k.
     let b = c.args.line.now in
-    let none : problem_of s ≡ None = sym (c.problem.ensures s k) ∙ c.in-default.is in
+    let none : problem_of s ≡ None = sym (c.problem.ensures s k) ∙ c.in_default.is in
     let whole : c.bytes.result.now ≡ s = c.bytes.ensures ∙ kept_whole (vec_items b.bytes) b.long b.first s none k in
-    let p = err_from_is_err_and c.from-residual.result c.from-residual.ensures.1 in
+    let p = err_from_is_err_and c.from_residual.result c.from_residual.ensures.1 in
     let P : Result RuleText Refusal → Type 0 = λ r. Checked (list c.args.self.now.names) s (list c.rule.new.names) (row_nodes c.rule.new.row) (reader_spans c.rule.new.self) r in
-    let Q : List ℕ → Type 0 = λ x. RuleRead (list c.args.self.now.names) x (list c.rule.new.names) (row_nodes c.rule.new.row) (reader_spans c.rule.new.self) (Err c.in-err-rule.field-0.0) in
-    subst P (sym (p.1 ∙ ap Err p.2)) (none, subst Q whole (c.in-err-rule.ensures.read c.args.self.now.nodes))
+    let Q : List ℕ → Type 0 = λ x. RuleRead (list c.args.self.now.names) x (list c.rule.new.names) (row_nodes c.rule.new.row) (reader_spans c.rule.new.self) (Err c.in_err-rule.field-0.0) in
+    subst P (sym (p.1 ∙ ap Err p.2)) (none, subst Q whole (c.in_err-rule.ensures.read c.args.self.now.nodes))
 
 pub returns : goal.returns
 returns c = λ s k.
     let b = c.args.line.now in
-    let none : problem_of s ≡ None = sym (c.problem.ensures s k) ∙ c.in-default.is in
+    let none : problem_of s ≡ None = sym (c.problem.ensures s k) ∙ c.in_default.is in
     let whole : c.bytes.result.now ≡ s = c.bytes.ensures ∙ kept_whole (vec_items b.bytes) b.long b.first s none k in
-    let Q : List ℕ → Type 0 = λ x. RuleRead (list c.args.self.now.names) x (list c.rule.new.names) (row_nodes c.rule.new.row) (reader_spans c.rule.new.self) (Ok c.in-ok-rule.rule) in
-    (none, subst Q whole (c.in-ok-rule.ensures.read c.args.self.now.nodes))
+    let Q : List ℕ → Type 0 = λ x. RuleRead (list c.args.self.now.names) x (list c.rule.new.names) (row_nodes c.rule.new.row) (reader_spans c.rule.new.self) (Ok c.in_ok-rule.rule) in
+    (none, subst Q whole (c.in_ok-rule.ensures.read c.args.self.now.nodes))

@@ -7,7 +7,7 @@ use Rattle.checking.proofs.checker.RuleChecker.is_named_true.Goals as goal
 
 pub returns-in-Some : goal.returns-in-Some
 returns-in-Some c =
-    c.is-text.ensures
+    c.is_text.ensures
     ∙ ap (λ x. same x true_name) (name_at_some (list c.args.self.now.names) c.args.name c.in-Some.bytes.now c.in-Some.ensures.value)
 
 pub returns-in-None : goal.returns-in-None

@@ -7,11 +7,11 @@ not_made : {X Y : Type 0} (r : Result X Y) (P : X → Type 0) → is_err r ≡ t
 not_made (Ok x) P h = false_true h
 not_made (Err y) P h = tt
 
-pub returns-in-err-names : goal.returns-in-err-names
-returns-in-err-names c = not_made c.from-residual-in-err-names.result _ c.from-residual-in-err-names.ensures.0
+pub returns-in_err-names : goal.returns-in_err-names
+returns-in_err-names c = not_made c.from_residual-in_err-names.result _ c.from_residual-in_err-names.ensures.0
 
-pub returns-in-err-row : goal.returns-in-err-row
-returns-in-err-row c = not_made c.from-residual-in-err-row.result _ c.from-residual-in-err-row.ensures.0
+pub returns-in_err-row : goal.returns-in_err-row
+returns-in_err-row c = not_made c.from_residual-in_err-row.result _ c.from_residual-in_err-row.ensures.0
 
-pub returns-in-err-writer : goal.returns-in-err-writer
-returns-in-err-writer c = not_made c.from-residual-in-err-writer.result _ c.from-residual-in-err-writer.ensures.0
+pub returns-in_err-writer : goal.returns-in_err-writer
+returns-in_err-writer c = not_made c.from_residual-in_err-writer.result _ c.from_residual-in_err-writer.ensures.0

@@ -28,47 +28,47 @@ neck_and_rest : (f : Bool) (h b : Term) → f ≡ false → (shown [] h ++ codes
 neck_and_rest true h b e = false_true (sym e)
 neck_and_rest false h b e = simp append_assoc
 
-pub returns-in-err-term : goal.returns-in-err-term
-returns-in-err-term c =
+pub returns-in_err-term : goal.returns-in_err-term
+returns-in_err-term c =
     let k = c.args.self.now in
     let h = meaning (list k.names) (row_nodes k.row) c.args.rule.head in
     let b = meaning (list k.names) (row_nodes k.row) c.args.rule.body in
     let begun : Line c.clear.new.self [] [] = record { holds = c.clear.ensures.bytes; numbers = c.clear.ensures.seen; wide = c.clear.ensures.limit ∙ k.wide } in
-    not_written _ _ c.from-residual.result c.from-residual.ensures.0
-    (term_off c.clear.new.self c.term.new.self [] [] (rest _ h b) _ h _ begun c.in-err-term.ensures (head_and_rest _ h b))
+    not_written _ _ c.from_residual.result c.from_residual.ensures.0
+    (term_off c.clear.new.self c.term.new.self [] [] (rest _ h b) _ h _ begun c.in_err-term.ensures (head_and_rest _ h b))
 
-pub returns-then-is-true : goal.returns-then-is-true
-returns-then-is-true c =
+pub returns-then-is_true : goal.returns-then-is_true
+returns-then-is_true c =
     let k = c.args.self.now in
     let h = meaning (list k.names) (row_nodes k.row) c.args.rule.head in
     let b = meaning (list k.names) (row_nodes k.row) c.args.rule.body in
     let begun : Line c.clear.new.self [] [] = record { holds = c.clear.ensures.bytes; numbers = c.clear.ensures.seen; wide = c.clear.ensures.limit ∙ k.wide } in
-    let one = term_on c.clear.new.self c.term.new.self [] [] h _ begun c.in-ok-term.ensures in
+    let one = term_on c.clear.new.self c.term.new.self [] [] h _ begun c.in_ok-term.ensures in
     text_ends c.term.new.self c.text.new.self c.text.result (shown [] h) (firsts [] h) (codes ".") _ one c.text.ensures
-    (ap (λ f. rule_text f h b) c.if-is-true.ensures)
+    (ap (λ f. rule_text f h b) c.if-is_true.ensures)
 
-pub returns-in-err-text : goal.returns-in-err-text
-returns-in-err-text c =
+pub returns-in_err-text : goal.returns-in_err-text
+returns-in_err-text c =
     let k = c.args.self.now in
     let h = meaning (list k.names) (row_nodes k.row) c.args.rule.head in
     let b = meaning (list k.names) (row_nodes k.row) c.args.rule.body in
     let begun : Line c.clear.new.self [] [] = record { holds = c.clear.ensures.bytes; numbers = c.clear.ensures.seen; wide = c.clear.ensures.limit ∙ k.wide } in
-    let one = term_on c.clear.new.self c.term.new.self [] [] h _ begun c.in-ok-term.ensures in
-    not_written _ _ c.from-residual-in-err-text.result c.from-residual-in-err-text.ensures.0
-    (text_off c.term.new.self c.text-2.new.self (shown [] h) (firsts [] h) (codes " :- ") (shown (firsts [] h) b ++ codes ".") _ _ one c.in-err-text.ensures
-    (neck_and_rest _ h b (sym c.if-is-true.ensures)))
+    let one = term_on c.clear.new.self c.term.new.self [] [] h _ begun c.in_ok-term.ensures in
+    not_written _ _ c.from_residual-in_err-text.result c.from_residual-in_err-text.ensures.0
+    (text_off c.term.new.self c.text-2.new.self (shown [] h) (firsts [] h) (codes " :- ") (shown (firsts [] h) b ++ codes ".") _ _ one c.in_err-text.ensures
+    (neck_and_rest _ h b (sym c.if-is_true.ensures)))
 
-pub returns-in-err-term-2 : goal.returns-in-err-term-2
-returns-in-err-term-2 c =
+pub returns-in_err-term-2 : goal.returns-in_err-term-2
+returns-in_err-term-2 c =
     let k = c.args.self.now in
     let h = meaning (list k.names) (row_nodes k.row) c.args.rule.head in
     let b = meaning (list k.names) (row_nodes k.row) c.args.rule.body in
     let begun : Line c.clear.new.self [] [] = record { holds = c.clear.ensures.bytes; numbers = c.clear.ensures.seen; wide = c.clear.ensures.limit ∙ k.wide } in
-    let one = term_on c.clear.new.self c.term.new.self [] [] h _ begun c.in-ok-term.ensures in
-    let two = text_on c.term.new.self c.text-2.new.self (shown [] h) (firsts [] h) (codes " :- ") _ one c.in-ok-text.ensures in
-    not_written _ _ c.from-residual-in-err-term-2.result c.from-residual-in-err-term-2.ensures.0
-    (term_off c.text-2.new.self c.term-2.new.self (shown [] h ++ codes " :- ") (firsts [] h) (codes ".") _ b _ two c.in-err-term-2.ensures
-    (grouped _ h b (sym c.if-is-true.ensures)))
+    let one = term_on c.clear.new.self c.term.new.self [] [] h _ begun c.in_ok-term.ensures in
+    let two = text_on c.term.new.self c.text-2.new.self (shown [] h) (firsts [] h) (codes " :- ") _ one c.in_ok-text.ensures in
+    not_written _ _ c.from_residual-in_err-term-2.result c.from_residual-in_err-term-2.ensures.0
+    (term_off c.text-2.new.self c.term-2.new.self (shown [] h ++ codes " :- ") (firsts [] h) (codes ".") _ b _ two c.in_err-term-2.ensures
+    (grouped _ h b (sym c.if-is_true.ensures)))
 
 pub returns : goal.returns
 returns c =
@@ -76,8 +76,8 @@ returns c =
     let h = meaning (list k.names) (row_nodes k.row) c.args.rule.head in
     let b = meaning (list k.names) (row_nodes k.row) c.args.rule.body in
     let begun : Line c.clear.new.self [] [] = record { holds = c.clear.ensures.bytes; numbers = c.clear.ensures.seen; wide = c.clear.ensures.limit ∙ k.wide } in
-    let one = term_on c.clear.new.self c.term.new.self [] [] h _ begun c.in-ok-term.ensures in
-    let two = text_on c.term.new.self c.text-2.new.self (shown [] h) (firsts [] h) (codes " :- ") _ one c.in-ok-text.ensures in
-    let three = term_on c.text-2.new.self c.term-2.new.self (shown [] h ++ codes " :- ") (firsts [] h) b _ two c.in-ok-term-2.ensures in
+    let one = term_on c.clear.new.self c.term.new.self [] [] h _ begun c.in_ok-term.ensures in
+    let two = text_on c.term.new.self c.text-2.new.self (shown [] h) (firsts [] h) (codes " :- ") _ one c.in_ok-text.ensures in
+    let three = term_on c.text-2.new.self c.term-2.new.self (shown [] h ++ codes " :- ") (firsts [] h) b _ two c.in_ok-term-2.ensures in
     text_ends c.term-2.new.self c.text-3.new.self c.text-3.result ((shown [] h ++ codes " :- ") ++ shown (firsts [] h) b) (firsts (firsts [] h) b) (codes ".") _ three c.text-3.ensures
-    (grouped _ h b (sym c.if-is-true.ensures))
+    (grouped _ h b (sym c.if-is_true.ensures))

@@ -6,4 +6,4 @@ use Rattle.checking.proofs.line.LineBuffer.problem.Goals as goal
 pub returns : goal.returns
 returns c = λ s k.
     let b = c.args.self.now in
-    c.bad-byte.ensures ∙ ap (bad_from 0) c.as-slice.ensures.value ∙ problem_of_kept (vec_items b.bytes) b.long b.first s c.if-self.false k
+    c.bad_byte.ensures ∙ ap (bad_from 0) c.as_slice.ensures.value ∙ problem_of_kept (vec_items b.bytes) b.long b.first s c.if-self.false k

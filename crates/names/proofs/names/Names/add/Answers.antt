@@ -6,8 +6,8 @@ use Rattle.names.proofs.names.Names.add.Goals as goal
 pub append-requires : goal.append-requires
 append-requires c = omega (arith, total_list c.args.self.now, c.requires.room, c.args.self.now.space)
 
-pub push-reserved-requires : goal.push-reserved-requires
-push-reserved-requires c = omega (arith, length_list c.args.self.now, c.requires.few, c.args.self.now.room)
+pub push_reserved-requires : goal.push_reserved-requires
+push_reserved-requires c = omega (arith, length_list c.args.self.now, c.requires.few, c.args.self.now.room)
 
 pub invariant-of-self : goal.invariant-of-self
 invariant-of-self c =
@@ -16,17 +16,17 @@ invariant-of-self c =
     let n = total_list t in
     let l = length_list t in
     let bytes = c.append.new.bytes in
-    let bounds = c.push-reserved.new.self in
+    let bounds = c.push_reserved.new.self in
     let end = c.len.result + length name in
     let x = c.append.ensures.items in
-    let y = c.push-reserved.ensures.items in
+    let y = c.push_reserved.ensures.items in
     let e : end ≡ vec_len t.bytes + length name = ap (λ k. k + length name) c.len.ensures in
     let m : vec_len bytes ≡ vec_len t.bytes + length name = c.append.ensures.len in
     let z = list_pushed t name (vec_items bytes) (vec_items bounds) end e x y in
     let s = sound_pushed t name _ c.requires.brief c.requires.new z in
     let a = ascends_pushed t name (vec_items bounds) end (vec_len bytes) e (omega arith) y in
-    let few : vec_len bounds ≤ 513 = omega (arith, c.push-reserved.ensures.len, c.requires.few) in
-    let room : 513 ≤ vec_capacity bounds = omega (arith, c.push-reserved.ensures.capacity, t.room) in
+    let few : vec_len bounds ≤ 513 = omega (arith, c.push_reserved.ensures.len, c.requires.few) in
+    let room : 513 ≤ vec_capacity bounds = omega (arith, c.push_reserved.ensures.capacity, t.room) in
     let space : 8192 ≤ vec_capacity bytes = omega (arith, c.append.ensures.capacity, t.space) in
     (few, (omega (arith, c.requires.room), (room, (space, (a, (s.0, (s.1, (s.2, tt))))))))
 
@@ -35,5 +35,5 @@ returns c =
     let t = c.args.self.now in
     let name = c.args.name.now in
     let e : c.len.result + length name ≡ vec_len t.bytes + length name = ap (λ k. k + length name) c.len.ensures in
-    list_pushed t name (vec_items c.append.new.bytes) (vec_items c.push-reserved.new.self)
-    (c.len.result + length name) e c.append.ensures.items c.push-reserved.ensures.items
+    list_pushed t name (vec_items c.append.new.bytes) (vec_items c.push_reserved.new.self)
+    (c.len.result + length name) e c.append.ensures.items c.push_reserved.ensures.items

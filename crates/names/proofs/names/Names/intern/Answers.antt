@@ -16,8 +16,8 @@ use Rattle.names.proofs.InternedProperties.{
 }
 use Rattle.names.proofs.names.Names.intern.Goals as goal
 
-pub returns-then-name-gt-MAX-NAME : goal.returns-then-name-gt-MAX-NAME
-returns-then-name-gt-MAX-NAME c =
+pub returns-then-name-gt-MAX_NAME : goal.returns-then-name-gt-MAX_NAME
+returns-then-name-gt-MAX_NAME c =
     let names = list c.args.self.now in
     let r = interned_long names c.args.name.now (omega arith) in
     record { value = r.0; after = r.1; kept = kept_same names; holds = tt }
@@ -29,16 +29,16 @@ returns-in-Some c =
     let r = interned_old names c.args.name.now c.in-Some.place (omega arith) (sym found.value) in
     record { value = r.0; after = r.1; kept = kept_same names; holds = found.tells }
 
-pub returns-then-place-ge-MAX-NAMES : goal.returns-then-place-ge-MAX-NAMES
-returns-then-place-ge-MAX-NAMES c =
+pub returns-then-place-ge-MAX_NAMES : goal.returns-then-place-ge-MAX_NAMES
+returns-then-place-ge-MAX_NAMES c =
     let names = list c.args.self.now in
     let name = c.args.name.now in
     let n = c.len-place.ensures.value in
     let m = c.used.ensures.value in
     let f : full names name ≡ true =
-    elim c.then-place-ge-MAX-NAMES.either
+    elim c.then-place-ge-MAX_NAMES.either
     [ inl l ↦ full_names names name (omega arith) | inr l ↦ full_bytes names name (omega arith) ] in
-    let r = interned_full names name (omega arith) (sym c.in-default.ensures.value) f in
+    let r = interned_full names name (omega arith) (sym c.in_default.ensures.value) f in
     record { value = r.0; after = r.1; kept = kept_same names; holds = tt }
 
 pub returns : goal.returns
@@ -48,7 +48,7 @@ returns c =
     let n = c.len-place.ensures.value in
     let m = c.used.ensures.value in
     let r =
-    interned_new names name (omega arith) (sym c.in-default.ensures.value)
+    interned_new names name (omega arith) (sym c.in_default.ensures.value)
     (not_full names name (omega arith) (omega arith)) in
     record {
       value = ap Ok n ∙ r.0;

@@ -12,26 +12,26 @@ overflow-cast-len c =
     let a : ascends (length bytes) bounds ≡ true =
     subst (λ n. ascends n bounds ≡ true) c.loop-i.bytes.ok.0 c.loop-i.invariant.1 in
     let l = stored_le c.loop-i.i bytes bounds c.loop-i.invariant.0 a in
-    let s = ap length c.known-name.ensures in
+    let s = ap length c.known_name.ensures in
     let k = known_brief c.loop-i.i in
-    omega (arith, c.in-ok-extend-from-slice.ensures.len, c.loop-i.bytes.ok.0)
+    omega (arith, c.in_ok-extend_from_slice.ensures.len, c.loop-i.bytes.ok.0)
 
 pub loop-i-preserved : goal.loop-i-preserved
 loop-i-preserved c =
     let bytes = vec_items c.loop-i.bytes in
     let bounds = vec_items c.loop-i.bounds in
-    let name = c.known-name.result.now in
-    let u = c.in-ok-extend-from-slice.ensures in
-    let v = c.in-ok-push-2.ensures in
+    let name = c.known_name.result.now in
+    let u = c.in_ok-extend_from_slice.ensures in
+    let v = c.in_ok-push-2.ensures in
     let n = c.loop-i.bytes.ok.0 in
     let a : ascends (length bytes) bounds ≡ true = subst (λ k. ascends k bounds ≡ true) n c.loop-i.invariant.1 in
-    let x : vec_items c.extend-from-slice.new.self ≡ bytes ++ name = u.items in
-    let m : vec_len c.extend-from-slice.new.self ≡ length bytes + length name =
+    let x : vec_items c.extend_from_slice.new.self ≡ bytes ++ name = u.items in
+    let m : vec_len c.extend_from_slice.new.self ≡ length bytes + length name =
     u.len ∙ ap (λ k. k + length name) n in
     let y : vec_items c.push-in-loop-i.new.self ≡ bounds ++ c.len.result ∷ [] = v.items in
     let z : c.len.result ≡ length bytes + length name = c.len.ensures ∙ m in
     let s =
-    stored_more c.loop-i.i bytes bounds name c.loop-i-test.true c.known-name.ensures
+    stored_more c.loop-i.i bytes bounds name c.loop-i-test.true c.known_name.ensures
     c.loop-i.invariant.0 a in
     let t = stored_ascends bytes bounds name a in
     (cc, cc, omega (arith, u.capacity, c.loop-i.invariant.2), omega (arith, v.capacity, c.loop-i.invariant.3))

@@ -19,14 +19,14 @@ invariant-of-self c =
     let next = k.next in
     let left = k.left in
     let labels = k.labels in
-    let items : vec_items c.push-reserved.new.self ≡ placed back c.keep-label.result (live_of s)
-    = placed_live back c.keep-label.result (vec_items t.live) (live_of s) (vec_items c.push-reserved.new.self)
+    let items : vec_items c.push_reserved.new.self ≡ placed back c.keep-label.result (live_of s)
+    = placed_live back c.keep-label.result (vec_items t.live) (live_of s) (vec_items c.push_reserved.new.self)
     (ap vec_items k.live)
-    c.push-reserved.ensures.items in
-    let more = c.push-reserved.ensures.len in
-    let cap = c.push-reserved.ensures.capacity in
+    c.push_reserved.ensures.items in
+    let more = c.push_reserved.ensures.len in
+    let cap = c.push_reserved.ensures.capacity in
     let two = live_placed back (vec_len s.entries) (vec_len t.entries) c.keep-label.result (live_of s)
-    (vec_items c.push-reserved.new.self) s.used s.once k.label k.next items in (
+    (vec_items c.push_reserved.new.self) s.used s.once k.label k.next items in (
       t.sizes,
       (
         (held.0, held.1, omega arith),
@@ -44,9 +44,9 @@ returns c =
     let same = ap vec_len k.live in
     let left = k.left in
     let labels = k.labels in
-    let items : vec_items c.push-reserved.new.self ≡ placed back c.keep-label.result (live_of s)
-    = placed_live back c.keep-label.result (vec_items t.live) (live_of s) (vec_items c.push-reserved.new.self)
+    let items : vec_items c.push_reserved.new.self ≡ placed back c.keep-label.result (live_of s)
+    = placed_live back c.keep-label.result (vec_items t.live) (live_of s) (vec_items c.push_reserved.new.self)
     (ap vec_items k.live)
-    c.push-reserved.ensures.items in
-    added back s t (value_of c.args.rule) c.keep-label.result (vec_items c.push-reserved.new.self)
-    c.if-is-full.ensures k items
+    c.push_reserved.ensures.items in
+    added back s t (value_of c.args.rule) c.keep-label.result (vec_items c.push_reserved.new.self)
+    c.if-is_full.ensures k items

@@ -57,4 +57,4 @@ returns c =
     (when_true (is_ok c.insert.result) (c.keep-label.result ∷ vec_items t.live) (vec_items t.live)
     (vec_items c.insert.new.self) c.insert.ensures.items ok) in
     added front s t (value_of c.args.rule) c.keep-label.result (vec_items c.insert.new.self)
-    c.if-is-full.ensures k items
+    c.if-is_full.ensures k items

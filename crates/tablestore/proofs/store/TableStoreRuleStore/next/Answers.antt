@@ -20,25 +20,25 @@ returns-in-None c =
     let s = c.args.self.now in
     record {
       value = next_first s c.args.indicator.name c.args.indicator.arity c.args.after
-          c.first-from.result c.in-None.is c.first-from.ensures;
+          c.first_from.result c.in-None.is c.first_from.ensures;
       lawful = lawful s;
     }
 
-pub returns-then-is-of : goal.returns-then-is-of
-returns-then-is-of c =
+pub returns-then-is_of : goal.returns-then-is_of
+returns-then-is_of c =
     let s = c.args.self.now in
     record {
       value = next_behind s c.args.indicator.name c.args.indicator.arity c.in-Some.label c.place.result
-          c.args.after c.first-from-then-is-of.result c.in-Some.is c.if-is-of.ensures
-          c.place.ensures c.first-from-then-is-of.ensures;
+          c.args.after c.first_from-then-is_of.result c.in-Some.is c.if-is_of.ensures
+          c.place.ensures c.first_from-then-is_of.ensures;
       lawful = lawful s;
     }
 
-pub returns-else-is-of : goal.returns-else-is-of
-returns-else-is-of c =
+pub returns-else-is_of : goal.returns-else-is_of
+returns-else-is_of c =
     let s = c.args.self.now in
     record {
       value = next_other s c.args.indicator.name c.args.indicator.arity c.in-Some.label c.args.after
-          c.in-Some.is c.if-is-of.ensures;
+          c.in-Some.is c.if-is_of.ensures;
       lawful = lawful s;
     }

@@ -4,13 +4,13 @@ use Rattle.tablestore.specs.Views.{rules_of, live_of}
 use Rattle.tablestore.proofs.RowsProperties.{own_here, own_on, own_past}
 use Rattle.tablestore.proofs.table.TableStore.first_from.Goals as goal
 
-pub returns-then-is-of : goal.returns-then-is-of
-returns-then-is-of c =
+pub returns-then-is_of : goal.returns-then-is_of
+returns-then-is_of c =
     let s = c.args.self.now in
     let n = c.len-at-end.ensures in
     let less : c.loop-at.at < length (live_of s) = omega (arith, s.live.ok.0) in
     sym (own_here (rules_of s) (live_of s) c.args.indicator.name c.args.indicator.arity c.loop-at.at
-    c.index-label.result.now less c.index-label.ensures c.if-is-of.ensures) ∙ c.loop-at.invariant
+    c.index-label.result.now less c.index-label.ensures c.if-is_of.ensures) ∙ c.loop-at.invariant
 
 pub loop-at-preserved : goal.loop-at-preserved
 loop-at-preserved c =
@@ -18,7 +18,7 @@ loop-at-preserved c =
     let n = c.len-at-end.ensures in
     let less : c.loop-at.at < length (live_of s) = omega (arith, s.live.ok.0) in
     own_on (rules_of s) (live_of s) c.args.indicator.name c.args.indicator.arity c.loop-at.at
-    c.index-label.result.now less c.index-label.ensures c.if-is-of.ensures ∙ c.loop-at.invariant
+    c.index-label.result.now less c.index-label.ensures c.if-is_of.ensures ∙ c.loop-at.invariant
 
 pub returns : goal.returns
 returns c =

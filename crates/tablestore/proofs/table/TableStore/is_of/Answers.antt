@@ -7,7 +7,7 @@ use Rattle.tablestore.proofs.table.TableStore.is_of.Goals as goal
 pub returns-then-label-len : goal.returns-then-label-len
 returns-then-label-len c =
     let n = c.len.ensures in
-    c.are-one.ensures
+    c.are_one.ensures
     ∙ sym (ap (λ o. is_of_rule o c.args.indicator.name c.args.indicator.arity)
     (rule_there c.args.self.now c.args.label c.index-entry.result.now (omega arith)
     c.index-entry.ensures))

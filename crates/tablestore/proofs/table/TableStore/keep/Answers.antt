@@ -8,8 +8,8 @@ use Rattle.tablestore.proofs.RowsProperties.{below_more}
 use Rattle.tablestore.proofs.ViewsProperties.{when_true, room, within_nodes}
 use Rattle.tablestore.proofs.table.TableStore.keep.Goals as goal
 
-pub push-reserved-requires : goal.push-reserved-requires
-push-reserved-requires c =
+pub push_reserved-requires : goal.push_reserved-requires
+push_reserved-requires c =
     let s = c.args.self.now in
     let two = room s (value_of c.args.rule) c.requires in
     let held = s.held in
@@ -32,22 +32,22 @@ invariant-of-self c =
     let few = s.few in
     let start = c.len-start.ensures in
     let fits : vec_len s.nodes + length v.nodes ≤ vec_capacity s.nodes = omega arith in
-    let ok = c.extend-from-slice.ensures.succeeds fits in
-    let more : vec_len c.extend-from-slice.new.self ≡ vec_len s.nodes + length v.nodes
-    = when_true (is_ok c.extend-from-slice.result) (vec_len s.nodes + length v.nodes) (vec_len s.nodes)
-    (vec_len c.extend-from-slice.new.self) c.extend-from-slice.ensures.len ok in
-    let cap = c.extend-from-slice.ensures.capacity in
-    let items = c.push-reserved.ensures.items in
-    let one = c.push-reserved.ensures.len in
-    let cap' = c.push-reserved.ensures.capacity in
+    let ok = c.extend_from_slice.ensures.succeeds fits in
+    let more : vec_len c.extend_from_slice.new.self ≡ vec_len s.nodes + length v.nodes
+    = when_true (is_ok c.extend_from_slice.result) (vec_len s.nodes + length v.nodes) (vec_len s.nodes)
+    (vec_len c.extend_from_slice.new.self) c.extend_from_slice.ensures.len ok in
+    let cap = c.extend_from_slice.ensures.capacity in
+    let items = c.push_reserved.ensures.items in
+    let one = c.push_reserved.ensures.len in
+    let cap' = c.push_reserved.ensures.capacity in
     let sum = ap total items ∙ total_push (vec_items s.entries) e in
     let tiled = s.tiled in
-    let all : total (vec_items c.push-reserved.new.self) ≡ vec_len c.extend-from-slice.new.self = omega arith in
-    let within : inside (vec_len c.extend-from-slice.new.self) (vec_items c.push-reserved.new.self) ≡ true
-    = ap (inside (vec_len c.extend-from-slice.new.self)) items
-    ∙ inside_push (vec_len s.nodes) (vec_len c.extend-from-slice.new.self) (vec_items s.entries) e s.within
+    let all : total (vec_items c.push_reserved.new.self) ≡ vec_len c.extend_from_slice.new.self = omega arith in
+    let within : inside (vec_len c.extend_from_slice.new.self) (vec_items c.push_reserved.new.self) ≡ true
+    = ap (inside (vec_len c.extend_from_slice.new.self)) items
+    ∙ inside_push (vec_len s.nodes) (vec_len c.extend_from_slice.new.self) (vec_items s.entries) e s.within
     (omega arith) (omega arith) in
-    let used = below_more (vec_len s.entries) (vec_len c.push-reserved.new.self) (vec_items s.live) s.used
+    let used = below_more (vec_len s.entries) (vec_len c.push_reserved.new.self) (vec_items s.live) s.used
     (omega arith) in (
       s.sizes,
       (
@@ -71,18 +71,18 @@ returns c =
     let two = room s v c.requires in
     let held = s.held in
     let fits : vec_len s.nodes + length v.nodes ≤ vec_capacity s.nodes = omega arith in
-    let ok = c.extend-from-slice.ensures.succeeds fits in
-    let items : vec_items c.extend-from-slice.new.self ≡ vec_items s.nodes ++ v.nodes
-    = when_true (is_ok c.extend-from-slice.result) (vec_items s.nodes ++ v.nodes) (vec_items s.nodes)
-    (vec_items c.extend-from-slice.new.self) c.extend-from-slice.ensures.items ok in
+    let ok = c.extend_from_slice.ensures.succeeds fits in
+    let items : vec_items c.extend_from_slice.new.self ≡ vec_items s.nodes ++ v.nodes
+    = when_true (is_ok c.extend_from_slice.result) (vec_items s.nodes ++ v.nodes) (vec_items s.nodes)
+    (vec_items c.extend_from_slice.new.self) c.extend_from_slice.ensures.items ok in
     let start : c.len-start.result ≡ length (vec_items s.nodes) = omega (arith, c.len-start.ensures, s.nodes.ok.0) in
     record {
       label = c.len-label.ensures;
-      next = c.push-reserved.ensures.len;
+      next = c.push_reserved.ensures.len;
       left = two.0;
-      rules = values_at_grown (vec_items s.nodes) (vec_items c.extend-from-slice.new.self)
-          (vec_items s.entries) (vec_items c.push-reserved.new.self) e v (within_nodes s) items
-          c.push-reserved.ensures.items start refl refl;
+      rules = values_at_grown (vec_items s.nodes) (vec_items c.extend_from_slice.new.self)
+          (vec_items s.entries) (vec_items c.push_reserved.new.self) e v (within_nodes s) items
+          c.push_reserved.ensures.items start refl refl;
       live = refl;
       labels = refl;
       space = refl;

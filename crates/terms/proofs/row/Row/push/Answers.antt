@@ -11,6 +11,6 @@ invariant-of-self c =
     let xs = vec_items h.nodes in
     let at : length xs ≡ c.len-at.result = omega arith in
     let fit : fitting (length xs) x ≡ true = ap (λ n. fitting n x) at ∙ sym c.if-fits.ensures in
-    let all : fitting_from 0 (vec_items c.push-reserved.new.self) ≡ true
-    = ap (fitting_from 0) c.push-reserved.ensures.items ∙ fitting_from_push xs x h.before fit in
+    let all : fitting_from 0 (vec_items c.push_reserved.new.self) ≡ true
+    = ap (fitting_from 0) c.push_reserved.ensures.items ∙ fitting_from_push xs x h.before fit in
     (search rules, (search rules, (search rules, (all, tt))))

@@ -22,8 +22,8 @@ loop-op-init c =
           e.no_nodes e.no_places e.no_variables,
     )
 
-pub returns-in-err-step : goal.returns-in-err-step
-returns-in-err-step c =
+pub returns-in_err-step : goal.returns-in_err-step
+returns-in_err-step c =
     let text = c.args.text.now in
     let ops = c.args.ops.now in
     let i = c.loop-op.op-index in
@@ -33,9 +33,9 @@ returns-in-err-step c =
     record {
       kept = extends_trans first (list c.loop-op.names) (list c.step.new.names) inv.0 c.step.ensures.kept;
       built = ends_err text first (run text ops) (list c.step.new.names) (row_nodes h.row) (vec_items h.stack)
-          (vec_items h.variables) c.from-residual.result c.from-residual.ensures.0
+          (vec_items h.variables) c.from_residual.result c.from_residual.ensures.0
           (run_unfit first text ops i (op.Variable 0 0) c.loop-op-test.true
-          (c.in-err-step.ensures.built first (run text (take i ops)) inv.1));
+          (c.in_err-step.ensures.built first (run text (take i ops)) inv.1));
     }
 
 pub loop-op-preserved : goal.loop-op-preserved
@@ -51,7 +51,7 @@ loop-op-preserved c =
       ends_as text first (apply text (get_or ops i (op.Variable 0 0)) (run text (take i ops))) (run text (take (i + 1) ops)) ns ns
           (row_nodes h.row) (vec_items h.stack) (vec_items h.variables) (Ok tt)
           (run_more text ops i (op.Variable 0 0) c.loop-op-test.true) refl
-          (c.in-ok-step.ensures.built first (run text (take i ops)) inv.1),
+          (c.in_ok-step.ensures.built first (run text (take i ops)) inv.1),
     )
 
 pub returns : goal.returns

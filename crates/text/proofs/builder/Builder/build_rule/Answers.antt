@@ -16,8 +16,8 @@ use Rattle.text.proofs.BuiltProperties.{ends_as, ends_err}
 use Rattle.text.proofs.FinishingProperties.{leaves_unfit}
 use Rattle.text.proofs.builder.Builder.build_rule.Goals as goal
 
-pub returns-in-err-build : goal.returns-in-err-build
-returns-in-err-build c =
+pub returns-in_err-build : goal.returns-in_err-build
+returns-in_err-build c =
     let text = c.args.text.now in
     let first = list c.args.names.now in
     let h = c.build.new.self in
@@ -25,8 +25,8 @@ returns-in-err-build c =
       kept = c.build.ensures.kept;
       built = λ head body l.
           ends_err text first (body ∷ head ∷ []) (list c.build.new.names) (row_nodes h.row) (vec_items h.stack)
-          (vec_items h.variables) c.from-residual.result c.from-residual.ensures.0
-          (leaves_unfit c.args.shape first (run text c.args.ops.now) head body l c.in-err-build.ensures.built);
+          (vec_items h.variables) c.from_residual.result c.from_residual.ensures.0
+          (leaves_unfit c.args.shape first (run text c.args.ops.now) head body l c.in_err-build.ensures.built);
     }
 
 pub returns-in-Fact : goal.returns-in-Fact
@@ -45,6 +45,6 @@ returns-in-Fact c =
           ends_as text first (named true_name (take_many 0 st)) (body ∷ head ∷ []) (list_after ns true_name) ns
           (row_nodes h.row) (vec_items h.stack) (vec_items h.variables) c.compound.result
           (ap (λ s. app true_name nil ∷ s) m.0 ∙ ap (λ t. t ∷ head ∷ []) (sym m.1)) (sym k.0)
-          (c.compound.ensures text first st ns true_name c.in-ok-build.ensures.built
+          (c.compound.ensures text first st ns true_name c.in_ok-build.ensures.built
           (extends_same ns (list_after ns true_name) k.0) k.1 (ap (λ l. name_at l 0) (sym k.0) ∙ k.2));
     }

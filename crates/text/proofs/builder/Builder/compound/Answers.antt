@@ -8,13 +8,13 @@ use Rattle.reader.specs.Ops.{named, take_many}
 use Rattle.text.proofs.BuiltProperties.{arity_unfit, built_app, pushed_from, spans_as}
 use Rattle.text.proofs.builder.Builder.compound.Goals as goal
 
-pub returns-then-count-gt-MAX-ARGUMENTS : goal.returns-then-count-gt-MAX-ARGUMENTS
-returns-then-count-gt-MAX-ARGUMENTS c text first st ns f b ext ok at =
+pub returns-then-count-gt-MAX_ARGUMENTS : goal.returns-then-count-gt-MAX_ARGUMENTS
+returns-then-count-gt-MAX_ARGUMENTS c text first st ns f b ext ok at =
     let h = c.args.self.now in
     let n : vec_len h.stack ≡ length (vec_items h.stack) = h.stack.ok.0 in
     let e : c.min-count.result ≡ min c.args.arity (length (vec_items h.stack)) = omega arith in
     arity_unfit text first st ns (row_nodes h.row) (vec_items h.stack) (vec_items h.variables) b f c.args.arity
-    c.min-count.result e c.if-count-gt-MAX-ARGUMENTS.true
+    c.min-count.result e c.if-count-gt-MAX_ARGUMENTS.true
 
 pub returns : goal.returns
 returns c text first st ns f b ext ok at =
@@ -26,9 +26,9 @@ returns c text first st ns f b ext ok at =
     let e : count ≡ min c.args.arity (length places) = omega arith in
     let h' = c.push.new.self in
     let top = drop k places in
-    let whole : take (length c.as-slice.result.now - k) (drop k c.as-slice.result.now) ≡ top
-    = take_rest c.as-slice.result.now k ∙ ap (drop k) c.as-slice.ensures.value in
-    let size : length (take (length c.as-slice.result.now - k) (drop k c.as-slice.result.now)) ≡ count
+    let whole : take (length c.as_slice.result.now - k) (drop k c.as_slice.result.now) ≡ top
+    = take_rest c.as_slice.result.now k ∙ ap (drop k) c.as_slice.ensures.value in
+    let size : length (take (length c.as_slice.result.now - k) (drop k c.as_slice.result.now)) ≡ count
     = (let l = ap length whole in let d = length-drop k places in omega arith) in
     let args : take count c.arguments-args.result ≡ top
     = ap (λ n. take n c.arguments-args.result) (sym size) ∙ c.arguments-args.ensures ∙ whole in
@@ -41,4 +41,4 @@ returns c text first st ns f b ext ok at =
     (vec_items h.variables) (vec_items h'.variables) c.push.result (sym c.push.ensures.1)
     (built_app text first st ns (row_nodes h.row) places (vec_items h.variables) b (row_nodes h'.row)
     (vec_items h'.stack) c.args.name c.args.arity count k c.arguments-args.result f c.push.result
-    ext ok at e ek c.if-count-gt-MAX-ARGUMENTS.false args pushed)
+    ext ok at e ek c.if-count-gt-MAX_ARGUMENTS.false args pushed)

@@ -12,6 +12,6 @@ invariant-of-self c =
     let some = push_some (row_limit h.row) xs c.args.node c.in-Some.place c.in-Some.ensures.place in
     let grown = ap length (c.push.ensures.items ∙ some.1) ∙ length_push xs c.args.node in
     let old = h.stacked in
-    let more = c.push-reserved.ensures.len in
-    let all : vec_len c.push-reserved.new.self ≤ length (row_nodes c.push.new.self) = omega arith in
+    let more = c.push_reserved.ensures.len in
+    let all : vec_len c.push_reserved.new.self ≤ length (row_nodes c.push.new.self) = omega arith in
     (c.push.ensures.limit ∙ h.limit, (all, (search rules, (search rules, (search rules, (search rules, tt))))))

@@ -43,8 +43,8 @@ returns-in-Integer c =
           (c.integer.ensures text first st ns b);
     }
 
-pub returns-in-err-name : goal.returns-in-err-name
-returns-in-err-name c =
+pub returns-in_err-name : goal.returns-in_err-name
+returns-in_err-name c =
     let text = c.args.text.now in
     let ns = list c.args.names.now in
     let h = c.args.self.now in
@@ -53,15 +53,15 @@ returns-in-err-name c =
     record {
       kept = c.intern.ensures.kept;
       built = λ first st b.
-          ends_err text first (apply text c.args.op st) (list c.intern.new.self) (row_nodes h.row) (vec_items h.stack) (vec_items h.variables) c.from-residual.result
-          c.from-residual.ensures.0
+          ends_err text first (apply text c.args.op st) (list c.intern.new.self) (row_nodes h.row) (vec_items h.stack) (vec_items h.variables) c.from_residual.result
+          c.from_residual.ensures.0
           (sym (ap (λ s. stack_fits first s) (ap (λ g. named g (take_many n st)) c.part-in-Name.ensures
           ∙ ap (λ o. apply text o st) (sym c.in-Name.is)))
-          ∙ name_unfit text first st ns (row_nodes h.row) (vec_items h.stack) (vec_items h.variables) b f n c.in-err-name.field-0.0 c.in-err-name.ensures.value);
+          ∙ name_unfit text first st ns (row_nodes h.row) (vec_items h.stack) (vec_items h.variables) b f n c.in_err-name.field-0.0 c.in_err-name.ensures.value);
     }
 
-pub returns-in-ok-name : goal.returns-in-ok-name
-returns-in-ok-name c =
+pub returns-in_ok-name : goal.returns-in_ok-name
+returns-in_ok-name c =
     let text = c.args.text.now in
     let ns = list c.args.names.now in
     let ns' = list c.intern.new.self in
@@ -69,7 +69,7 @@ returns-in-ok-name c =
     let f = c.part-in-Name.result.now in
     let n = c.in-Name.arity in
     let e = c.intern.ensures.after in
-    let v = c.in-ok-name.ensures in
+    let v = c.in_ok-name.ensures in
     record {
       kept = c.intern.ensures.kept;
       built = λ first st b.
@@ -78,7 +78,7 @@ returns-in-ok-name c =
           (ap (λ g. named g (take_many n st)) c.part-in-Name.ensures ∙ ap (λ o. apply text o st) (sym c.in-Name.is))
           (sym e)
           (c.compound.ensures text first st ns f b (ap (take (length ns)) (sym e) ∙ v.kept)
-          (ap is_ok (sym v.value)) (ap (λ l. name_at l c.in-ok-name.name) (sym e) ∙ v.holds));
+          (ap is_ok (sym v.value)) (ap (λ l. name_at l c.in_ok-name.name) (sym e) ∙ v.holds));
     }
 
 pub returns-then-not-unquote : goal.returns-then-not-unquote
@@ -96,36 +96,36 @@ returns-then-not-unquote c =
           ∙ long_unfit text first st ns (row_nodes h.row) (vec_items h.stack) (vec_items h.variables) b f n (leb-false (length f) 64 (sym c.if-not-unquote.ensures.short));
     }
 
-pub returns-in-err-name-2 : goal.returns-in-err-name-2
-returns-in-err-name-2 c =
+pub returns-in_err-name-2 : goal.returns-in_err-name-2
+returns-in_err-name-2 c =
     let text = c.args.text.now in
     let ns = list c.args.names.now in
     let h = c.args.self.now in
-    let f = c.as-slice.result.now in
-    let is = c.as-slice.ensures.value ∙ c.if-not-unquote.ensures.items tt in
+    let f = c.as_slice.result.now in
+    let is = c.as_slice.ensures.value ∙ c.if-not-unquote.ensures.items tt in
     let n = c.in-Quoted.arity in
     record {
       kept = c.intern-in-Quoted.ensures.kept;
       built = λ first st b.
           ends_err text first (apply text c.args.op st) (list c.intern-in-Quoted.new.self) (row_nodes h.row) (vec_items h.stack) (vec_items h.variables)
-          c.from-residual-in-err-name-2.result c.from-residual-in-err-name-2.ensures.0
+          c.from_residual-in_err-name-2.result c.from_residual-in_err-name-2.ensures.0
           (sym (ap (λ s. stack_fits first s) (ap (λ g. named g (take_many n st)) is
           ∙ ap (λ g. named (undouble false g) (take_many n st)) c.part-in-Quoted.ensures
           ∙ ap (λ o. apply text o st) (sym c.in-Quoted.is)))
-          ∙ name_unfit text first st ns (row_nodes h.row) (vec_items h.stack) (vec_items h.variables) b f n c.in-err-name-2.field-0.0 c.in-err-name-2.ensures.value);
+          ∙ name_unfit text first st ns (row_nodes h.row) (vec_items h.stack) (vec_items h.variables) b f n c.in_err-name-2.field-0.0 c.in_err-name-2.ensures.value);
     }
 
-pub returns-in-ok-name-2 : goal.returns-in-ok-name-2
-returns-in-ok-name-2 c =
+pub returns-in_ok-name-2 : goal.returns-in_ok-name-2
+returns-in_ok-name-2 c =
     let text = c.args.text.now in
     let ns = list c.args.names.now in
     let ns' = list c.intern-in-Quoted.new.self in
     let h = c.compound-in-Quoted.new.self in
-    let f = c.as-slice.result.now in
-    let is = c.as-slice.ensures.value ∙ c.if-not-unquote.ensures.items tt in
+    let f = c.as_slice.result.now in
+    let is = c.as_slice.ensures.value ∙ c.if-not-unquote.ensures.items tt in
     let n = c.in-Quoted.arity in
     let e = c.intern-in-Quoted.ensures.after in
-    let v = c.in-ok-name-2.ensures in
+    let v = c.in_ok-name-2.ensures in
     record {
       kept = c.intern-in-Quoted.ensures.kept;
       built = λ first st b.
@@ -136,7 +136,7 @@ returns-in-ok-name-2 c =
           ∙ ap (λ o. apply text o st) (sym c.in-Quoted.is))
           (sym e)
           (c.compound-in-Quoted.ensures text first st ns f b (ap (take (length ns)) (sym e) ∙ v.kept)
-          (ap is_ok (sym v.value)) (ap (λ l. name_at l c.in-ok-name-2.name) (sym e) ∙ v.holds));
+          (ap is_ok (sym v.value)) (ap (λ l. name_at l c.in_ok-name-2.name) (sym e) ∙ v.holds));
     }
 
 pub returns-in-EmptyList : goal.returns-in-EmptyList

@@ -14,7 +14,7 @@ returns c first st ns b =
     let h' = c.push.new.self in
     let text = c.args.text.now in
     let a = part text c.args.start c.args.end in
-    let v = c.in-ok-number.ensures in
+    let v = c.in_ok-number.ensures in
     let spans = vec_items c.number.new.variables in
     let n : vec_len c.number.new.variables ≡ length spans = c.number.new.variables.ok.0 in
     let all = length_cuts text spans in
@@ -22,5 +22,5 @@ returns c first st ns b =
     spans_as text first (var a ∷ st) ns (row_nodes h'.row) (vec_items h'.stack) spans (vec_items h'.variables)
     c.push.result (sym c.push.ensures.1)
     (built_var text first st ns (row_nodes h.row) (vec_items h.stack) (vec_items h.variables) b (row_nodes h'.row)
-    (vec_items h'.stack) spans a c.in-ok-number.number c.push.result v.value.0 v.value.1 few
+    (vec_items h'.stack) spans a c.in_ok-number.number c.push.result v.value.0 v.value.1 few
     c.push.ensures.0)

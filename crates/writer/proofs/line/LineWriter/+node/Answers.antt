@@ -25,24 +25,24 @@ arguments-args-requires t c =
     (App c.in-App.name c.in-App.arity c.in-App.args) c.nodes.ensures c.in-App.is in
     app_arity (row_nodes row) (row_nodes_fitting row) c.args.at c.requires _ _ _ e
 
-pub returns-in-err-opening : goal.returns-in-err-opening
-returns-in-err-opening t c =
+pub returns-in_err-opening : goal.returns-in_err-opening
+returns-in_err-opening t c =
     let row = c.args.row.now in
     let e = read_as (row_nodes row) c.nodes.result.now c.args.at
     (App c.in-App.name c.in-App.arity c.in-App.args) c.nodes.ensures c.in-App.is in
     let ns = list c.args.names.now in
     let js = c.arguments-args.result.now in
     let seen = line_seen c.args.self.now in
-    let k = c.form-of-form.result in
+    let k = c.form_of-form.result in
     let whole = node_text c.args.spot k ns (row_nodes row) c.args.at c.in-App.name c.in-App.arity
-    c.in-App.args js c.name-of-name.result.now seen seen (row_nodes_fitting row) c.requires e
-    c.arguments-args.ensures c.name-of-name.ensures c.form-of-form.ensures refl in
+    c.in-App.args js c.name_of-name.result.now seen seen (row_nodes_fitting row) c.requires e
+    c.arguments-args.ensures c.name_of-name.ensures c.form_of-form.ensures refl in
     puts_longer (text_at (spot_of c.args.spot) (numbered seen (meaning ns (row_nodes row) c.args.at)))
-    (firsts seen (meaning ns (row_nodes row) c.args.at)) c.from-residual.result c.from-residual.ensures.0
-    (opening_short (opening_text c.args.spot k c.name-of-name.result.now)
+    (firsts seen (meaning ns (row_nodes row) c.args.at)) c.from_residual.result c.from_residual.ensures.0
+    (opening_short (opening_text c.args.spot k c.name_of-name.result.now)
     (part_text k seen (meanings ns (row_nodes row)) js (length js)) (closing_text c.args.spot k)
     (text_at (spot_of c.args.spot) (numbered seen (meaning ns (row_nodes row) c.args.at))) whole)
-    c.in-err-opening.ensures
+    c.in_err-opening.ensures
 
 pub loop-k-init : goal.loop-k-init
 loop-k-init t c = puts_none c.opening.new.self tt
@@ -58,8 +58,8 @@ node-requires t c =
     let inside = c.requires in
     (omega arith, omega arith)
 
-pub returns-in-err-node : goal.returns-in-err-node
-returns-in-err-node t c =
+pub returns-in_err-node : goal.returns-in_err-node
+returns-in_err-node t c =
     let row = c.args.row.now in
     let e = read_as (row_nodes row) c.nodes.result.now c.args.at
     (App c.in-App.name c.in-App.arity c.in-App.args) c.nodes.ensures c.in-App.is in
@@ -68,31 +68,31 @@ returns-in-err-node t c =
     let old = line_seen c.args.self.now in
     let seen = line_seen c.opening.new.self in
     let ts = meanings ns (row_nodes row) in
-    let k = c.form-of-form.result in
+    let k = c.form_of-form.result in
     let l : c.loop-k.k < length js = c.loop-k-test.true in
     let n : c.loop-k.k + 1 ≤ length js = omega arith in
-    let first = c.in-ok-opening.ensures in
+    let first = c.in_ok-opening.ensures in
     let whole = node_text c.args.spot k ns (row_nodes row) c.args.at c.in-App.name c.in-App.arity
-    c.in-App.args js c.name-of-name.result.now seen old (row_nodes_fitting row) c.requires e
-    c.arguments-args.ensures c.name-of-name.ensures c.form-of-form.ensures first.put.told.1 in
+    c.in-App.args js c.name_of-name.result.now seen old (row_nodes_fitting row) c.requires e
+    c.arguments-args.ensures c.name_of-name.ensures c.form_of-form.ensures first.put.told.1 in
     puts_longer (text_at (spot_of c.args.spot) (numbered old (meaning ns (row_nodes row) c.args.at)))
-    (firsts old (meaning ns (row_nodes row) c.args.at)) c.from-residual-in-err-node.result
-    c.from-residual-in-err-node.ensures.0
-    (part_short (opening_text c.args.spot k c.name-of-name.result.now) (part_text k seen ts js (length js))
+    (firsts old (meaning ns (row_nodes row) c.args.at)) c.from_residual-in_err-node.result
+    c.from_residual-in_err-node.ensures.0
+    (part_short (opening_text c.args.spot k c.name_of-name.result.now) (part_text k seen ts js (length js))
     (closing_text c.args.spot k) (part_text k seen ts js (c.loop-k.k + 1))
     (text_at (spot_of c.args.spot) (numbered old (meaning ns (row_nodes row) c.args.at))) whole
     (part_text_longer k seen ts js (c.loop-k.k + 1) (length js) n))
     (puts_then first
-    (argument_next k seen ts js c.loop-k.k (get_or js c.loop-k.k 0) c.argument-spot.result l refl
-    c.argument-spot.ensures c.loop-k.invariant c.in-err-node.ensures))
+    (argument_next k seen ts js c.loop-k.k (get_or js c.loop-k.k 0) c.argument_spot.result l refl
+    c.argument_spot.ensures c.loop-k.invariant c.in_err-node.ensures))
 
 pub loop-k-preserved : goal.loop-k-preserved
 loop-k-preserved t c =
     let js = c.arguments-args.result.now in
-    argument_next c.form-of-form.result (line_seen c.opening.new.self)
+    argument_next c.form_of-form.result (line_seen c.opening.new.self)
     (meanings (list c.args.names.now) (row_nodes c.args.row.now)) js c.loop-k.k
-    (get_or js c.loop-k.k 0) c.argument-spot.result c.loop-k-test.true refl c.argument-spot.ensures
-    c.loop-k.invariant c.in-ok-node.ensures
+    (get_or js c.loop-k.k 0) c.argument_spot.result c.loop-k-test.true refl c.argument_spot.ensures
+    c.loop-k.invariant c.in_ok-node.ensures
 
 pub returns-in-Var : goal.returns-in-Var
 returns-in-Var t c =
@@ -103,7 +103,7 @@ returns-in-Var t c =
     let m = meaning_at (list c.args.names.now) (row_nodes row) c.args.at (Var c.in-Var.variable)
     (row_nodes_fitting row) c.requires e in
     puts_same (ap (λ u. text_at (spot_of c.args.spot) (numbered seen u)) (sym m)) (ap (firsts seen) (sym m))
-    c.placed-variable.ensures
+    c.placed_variable.ensures
 
 pub returns-in-Int : goal.returns-in-Int
 returns-in-Int t c =
@@ -118,7 +118,7 @@ returns-in-Int t c =
     puts_same
     (ap (λ j. placed (spot_of c.args.spot) (integer_text j)) z
     ∙ ap (λ u. text_at (spot_of c.args.spot) (numbered seen u)) (sym m))
-    (ap (firsts seen) (sym m)) c.placed-integer.ensures
+    (ap (firsts seen) (sym m)) c.placed_integer.ensures
 
 pub returns-after-loop-k : goal.returns-after-loop-k
 returns-after-loop-k t c =
@@ -129,14 +129,14 @@ returns-after-loop-k t c =
     let js = c.arguments-args.result.now in
     let seen = line_seen c.opening.new.self in
     let ts = meanings ns (row_nodes row) in
-    let k = c.form-of-form.result in
+    let k = c.form_of-form.result in
     let all : c.loop-k.k ≡ length js = omega arith in
-    let first = c.in-ok-opening.ensures in
+    let first = c.in_ok-opening.ensures in
     let same = first.put.told.1 in
     puts_same
     (node_text c.args.spot k ns (row_nodes row) c.args.at c.in-App.name c.in-App.arity
-    c.in-App.args js c.name-of-name.result.now seen (line_seen c.args.self.now) (row_nodes_fitting row)
-    c.requires e c.arguments-args.ensures c.name-of-name.ensures c.form-of-form.ensures same)
+    c.in-App.args js c.name_of-name.result.now seen (line_seen c.args.self.now) (row_nodes_fitting row)
+    c.requires e c.arguments-args.ensures c.name_of-name.ensures c.form_of-form.ensures same)
     (node_seen ns (row_nodes row) c.args.at c.in-App.name c.in-App.arity c.in-App.args js seen
     (line_seen c.args.self.now) (row_nodes_fitting row) c.requires e c.arguments-args.ensures same)
     (puts_next

@@ -5,13 +5,13 @@ use Rattle.writer.specs.Lines.{line_seen}
 use Rattle.writer.proofs.PutProperties.{puts_next, puts_fails, puts_same}
 use Rattle.writer.proofs.line.LineWriter.+number.Goals as goal
 
-pub returns-in-err-number : goal.returns-in-err-number
-returns-in-err-number t c =
+pub returns-in_err-number : goal.returns-in_err-number
+returns-in_err-number t c =
     let n = c.args.n in
     let seen = line_seen c.args.self.now in
     puts_same (sym (decimal_step n (omega arith) (omega arith))) refl
-    (puts_fails ((48 + n % 10) ∷ []) seen c.from-residual.result c.from-residual.ensures.0
-    c.in-err-number.ensures)
+    (puts_fails ((48 + n % 10) ∷ []) seen c.from_residual.result c.from_residual.ensures.0
+    c.in_err-number.ensures)
 
 pub returns-then-n-lt10 : goal.returns-then-n-lt10
 returns-then-n-lt10 t c = puts_same (sym (decimal_digit c.args.n c.if-n-lt10.true)) refl c.byte.ensures
@@ -19,4 +19,4 @@ returns-then-n-lt10 t c = puts_same (sym (decimal_digit c.args.n c.if-n-lt10.tru
 pub returns : goal.returns
 returns t c =
     puts_same (sym (decimal_step c.args.n (omega arith) (omega arith))) refl
-    (puts_next c.in-ok-number.ensures c.byte-2.ensures)
+    (puts_next c.in_ok-number.ensures c.byte-2.ensures)

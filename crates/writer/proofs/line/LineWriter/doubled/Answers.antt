@@ -10,16 +10,16 @@ use Rattle.writer.proofs.line.LineWriter.doubled.Goals as goal
 pub loop-i-init : goal.loop-i-init
 loop-i-init c = puts_none c.args.self.now tt
 
-pub returns-in-err-quoted-byte : goal.returns-in-err-quoted-byte
-returns-in-err-quoted-byte c =
-    puts_longer (doubled c.args.name.now) (line_seen c.args.self.now) c.from-residual.result
-    c.from-residual.ensures.0 (doubled_front c.args.name.now c.loop-i.i c.loop-i-test.true)
-    (puts_then c.loop-i.invariant c.in-err-quoted-byte.ensures)
+pub returns-in_err-quoted_byte : goal.returns-in_err-quoted_byte
+returns-in_err-quoted_byte c =
+    puts_longer (doubled c.args.name.now) (line_seen c.args.self.now) c.from_residual.result
+    c.from_residual.ensures.0 (doubled_front c.args.name.now c.loop-i.i c.loop-i-test.true)
+    (puts_then c.loop-i.invariant c.in_err-quoted_byte.ensures)
 
 pub loop-i-preserved : goal.loop-i-preserved
 loop-i-preserved c =
     puts_same (doubled_more c.args.name.now c.loop-i.i c.loop-i-test.true) refl
-    (puts_next c.loop-i.invariant c.in-ok-quoted-byte.ensures)
+    (puts_next c.loop-i.invariant c.in_ok-quoted_byte.ensures)
 
 pub returns : goal.returns
 returns c =

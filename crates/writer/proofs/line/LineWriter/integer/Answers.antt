@@ -8,6 +8,6 @@ use Rattle.writer.proofs.line.LineWriter.integer.Goals as goal
 
 pub returns : goal.returns
 returns c =
-    puts_same (integer_text_minus c.args.i c.unsigned-abs-2.result
-    (c.unsigned-abs-2.ensures.value ∙ ap nat_abs (to_z-of_z w32 c.args.i c.ranges.i)) (sym (ap (le_z (pos 0)) (to_z-of_z w32 c.args.i c.ranges.i)) ∙ c.if-i-ge0.false)) refl
-    (puts_next c.in-ok-byte.ensures c.number-2.ensures)
+    puts_same (integer_text_minus c.args.i c.unsigned_abs-2.result
+    (c.unsigned_abs-2.ensures.value ∙ ap nat_abs (to_z-of_z w32 c.args.i c.ranges.i)) (sym (ap (le_z (pos 0)) (to_z-of_z w32 c.args.i c.ranges.i)) ∙ c.if-i-ge0.false)) refl
+    (puts_next c.in_ok-byte.ensures c.number-2.ensures)

@@ -9,5 +9,5 @@ returns c =
     let k = c.args.form in
     puts_same
     (ap (λ b. cond b (further_text k) (spot_before c.args.spot ++ head_text k c.args.name.now))
-    c.if-goes-on.ensures)
-    refl (puts_next (puts_same c.before-2.ensures refl c.in-ok-put.ensures) c.head.ensures)
+    c.if-goes_on.ensures)
+    refl (puts_next (puts_same c.before-2.ensures refl c.in_ok-put.ensures) c.head.ensures)

@@ -13,8 +13,8 @@ pub returns-in-Err : goal.returns-in-Err
 returns-in-Err c =
     let p = c.in-Err.ensures in
     let a = c.args.self.now in
-    let bytes = c.len-length-before.ensures ∙ a.bytes.ok.0 in
-    let seen = c.len-seen-before.ensures ∙ a.seen.ok.0 in
+    let bytes = c.len-length_before.ensures ∙ a.bytes.ok.0 in
+    let seen = c.len-seen_before.ensures ∙ a.seen.ok.0 in
     record {
       value = puts_err p;
       bytes = c.truncate-in-Err.ensures.items

@@ -11,17 +11,17 @@ pub overflow-add-label : goal.overflow-add-label
 overflow-add-label c =
     let s = c.args.self.now in
     let l = cell_less (vec_items s.entries) c.args.indicator (Some c.in-Some.label)
-    (sym c.is-live.ensures ∙ c.if-is-live.true) in
+    (sym c.is_live.ensures ∙ c.if-is_live.true) in
     let k = s.entries.ok.0 in
     let few = s.few in
     let small = s.small in
     omega arith
 
-pub label-after-requires-then-is-live : goal.label-after-requires-then-is-live
-label-after-requires-then-is-live c =
+pub label_after-requires-then-is_live : goal.label_after-requires-then-is_live
+label_after-requires-then-is_live c =
     let s = c.args.self.now in
     let l = cell_less (vec_items s.entries) c.args.indicator (Some c.in-Some.label)
-    (sym c.is-live.ensures ∙ c.if-is-live.true) in
+    (sym c.is_live.ensures ∙ c.if-is_live.true) in
     let k = s.entries.ok.0 in
     let m = s.links.ok.0 in
     let cells = s.cells in
@@ -32,29 +32,29 @@ returns-in-None c =
     let s = c.args.self.now in
     let i = c.args.indicator in
     record {
-      value = c.label-after.ensures ∙ ap (λ n. label_of (after_at (vec_items s.links) n)) c.head-of.ensures.0
+      value = c.label_after.ensures ∙ ap (λ n. label_of (after_at (vec_items s.links) n)) c.head_of.ensures.0
           ∙ next_label s i None refl ∙ ap (next_in (row (vec_items s.entries) i)) (sym c.in-None.is);
       lawful = store_lawful s;
     }
 
-pub returns-then-is-live : goal.returns-then-is-live
-returns-then-is-live c =
+pub returns-then-is_live : goal.returns-then-is_live
+returns-then-is_live c =
     let s = c.args.self.now in
     let i = c.args.indicator in
     record {
-      value = c.label-after-then-is-live.ensures
-          ∙ next_label s i (Some c.in-Some.label) (sym c.is-live.ensures ∙ c.if-is-live.true)
+      value = c.label_after-then-is_live.ensures
+          ∙ next_label s i (Some c.in-Some.label) (sym c.is_live.ensures ∙ c.if-is_live.true)
           ∙ ap (next_in (row (vec_items s.entries) i)) (sym c.in-Some.is);
       lawful = store_lawful s;
     }
 
-pub returns-else-is-live : goal.returns-else-is-live
-returns-else-is-live c =
+pub returns-else-is_live : goal.returns-else-is_live
+returns-else-is_live c =
     let s = c.args.self.now in
     let i = c.args.indicator in
     record {
       value = sym (ap (next_in (row (vec_items s.entries) i)) c.in-Some.is
           ∙ behind_absent c.in-Some.label (row (vec_items s.entries) i)
-          (sym c.is-live.ensures ∙ c.if-is-live.false));
+          (sym c.is_live.ensures ∙ c.if-is_live.false));
       lawful = store_lawful s;
     }

@@ -24,5 +24,5 @@ returns c =
     rule_read (vec_items s.nodes) c.part.result.now (vec_items s.entries) c.args.label e
     c.name.result
     c.arity.result (omega arith) c.index.ensures
-    (c.part.ensures ∙ ap (λ xs. take e.length (drop e.start xs)) c.as-slice.ensures.value)
+    (c.part.ensures ∙ ap (λ xs. take e.length (drop e.start xs)) c.as_slice.ensures.value)
     c.name.ensures c.arity.ensures
