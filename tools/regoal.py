@@ -18,6 +18,7 @@ def source_names():
     names = set(ALWAYS)
     for path in glob.glob("crates/*/src/**/*.rt", recursive=True):
         for line in open(path, encoding="utf-8"):
+            names.update(re.findall(r"^\s*(?:requires|ensures|ghost)\*?\s+(\w*_\w+)\s*[{:]", line))
             if line.lstrip().startswith(("//", "ghost", "requires", "ensures")):
                 continue
             names.update(w for w in re.findall(r"[A-Za-z]\w*_\w+", line))

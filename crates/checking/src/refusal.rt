@@ -2,7 +2,7 @@
 
 ghost use Rattle.std.specs.Prelude.{◌≡◌};
 ghost use Rattle.checking.specs.Refusals.{number_of, fault_of, word_of, sentence_of, line_sentence, grammar_sentence, limit_sentence, head_sentence, grammar_fault};
-ghost use Rattle.checking.specs.declared.refusal.Refusal.TheVariants.{Line as of-line, Text as of-text};
+ghost use Rattle.checking.specs.declared.refusal.Refusal.TheVariants.{Line as of_line, Text as of_text};
 
 use crate::line::LineProblem;
 use reader::fault::{LineFault, TermFault};
@@ -17,7 +17,7 @@ pub enum Refusal {
 }
 
 impl From<LineProblem> for Refusal {
-    ghost from_gives = { λ e r. r ≡ of-line e };
+    ghost from_gives = { λ e r. r ≡ of_line e };
 
     fn from(problem: LineProblem) -> Refusal {
         Refusal::Line(problem)
@@ -25,7 +25,7 @@ impl From<LineProblem> for Refusal {
 }
 
 impl From<TextFault> for Refusal {
-    ghost from_gives = { λ e r. r ≡ of-text e };
+    ghost from_gives = { λ e r. r ≡ of_text e };
 
     fn from(fault: TextFault) -> Refusal {
         Refusal::Text(fault)

@@ -1,5 +1,5 @@
 -- From the grammar to the reader of tokens: a term leads over its tokens, whatever stands around it.
-use Rattle.std.proofs.Common.{◌≡◌, ℕ, List, [], ◌∷◌, Some, None, Option, refl, ap, ◌∙◌}
+use Rattle.std.proofs.Common.{◌≡◌, ℕ, List, ◌∷◌, Some, None, Option, refl, ap, ◌∙◌}
 use Rattle.tokens.specs.Token.{Token, name, variable, integer, neck, opening, closing, left, right, bar, comma, stop}
 use Rattle.grammar.specs.Written.{Written, Writtens, app, nil, cons, join, with_last, Sentence}
 use Rattle.grammar.specs.Grammar.{TermAt, a_variable, an_integer, a_name, with_arguments, in_brackets, empty_brackets}

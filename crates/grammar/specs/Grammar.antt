@@ -1,5 +1,5 @@
 -- The grammar: which tokens are which term, and which bytes are which rule or query.
-use Rattle.std.specs.Prelude.{◌≡◌, ℕ, suc, Bool, true, List, [], ◌∷◌, ◌++◌}
+use Rattle.std.specs.Prelude.{ℕ, suc, Bool, true, List, [], ◌∷◌, ◌++◌}
 use Rattle.tokens.specs.Token.{Token, name, variable, integer, neck, opening, closing, left, right, bar, comma, stop, Row, first}
 use Rattle.grammar.specs.Written.{Written, Writtens, var, int, app, nil, cons, conj, list_of, empty_list, Sentence, fact, rule, query}
 

@@ -1,7 +1,7 @@
 -- What a reader of tokens must obey, so that the reader of bytes above it stops at the least place.
 use Rattle.std.specs.Prelude.{◌≡◌, ℕ, true, List, []}
 use Rattle.tokens.specs.Token.{Token, name, variable, integer}
-use Rattle.grammar.specs.Machine.{Parser, Lex, VerdictOf, good, takes, hope, verdict}
+use Rattle.grammar.specs.Machine.{Parser, Lex, good, takes, hope, verdict}
 
 module _ (G : Parser) where
   -- some bytes complete what was read so far

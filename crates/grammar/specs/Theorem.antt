@@ -1,6 +1,6 @@
 -- What is proved of the grammar: the reader of bytes reads exactly its texts, each text is one sentence,
 -- and where it stops is the least place, with the brackets open there.
-use Rattle.std.specs.Prelude.{◌≡◌, ℕ, suc, ◌+◌, ◌-◌, true, List, [], ◌∷◌, ◌++◌, length, ◌≢◌}
+use Rattle.std.specs.Prelude.{◌≡◌, ℕ, suc, ◌+◌, true, List, [], ◌∷◌, ◌++◌, length, ◌≢◌}
 use Rattle.tokens.specs.declared.kind.Kind.TheVariants.{Stray}
 use Rattle.tokens.specs.Bytes.{class, space}
 use Rattle.tokens.specs.Token.{IsRow, first}

@@ -1,5 +1,5 @@
 -- Terms as they are written: a variable by its name, an integer by its digits, a name with its arguments.
-use Rattle.std.specs.Prelude.{ℕ, suc, List, [], ◌∷◌}
+use Rattle.std.specs.Prelude.{ℕ, suc, List}
 use Rattle.terms.specs.Known.{comma_name, dot_name, empty_name}
 
 mutual

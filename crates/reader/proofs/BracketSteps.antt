@@ -18,7 +18,7 @@ use Rattle.grammar.specs.Places.{taken_or, tail_of, operand_by, after_by}
 use Rattle.reader.specs.declared.op.Op.{Op}
 use Rattle.reader.specs.declared.op.Op.TheVariants as op
 use Rattle.reader.specs.declared.fault.TermFault.{TermFault}
-use Rattle.reader.specs.declared.fault.TermFault.TheVariants as term-fault
+use Rattle.reader.specs.declared.fault.TermFault.TheVariants as term_fault
 use Rattle.reader.specs.declared.term.Many.{Many}
 use Rattle.reader.specs.Ops.{Stack, run, run_from, pushed}
 use Rattle.reader.specs.Reading.{Admits, quote_open, Reaches, Breaks, Faulted, ManyReach, ManyBreak, ArgumentsReach}
@@ -144,9 +144,9 @@ round_on : (m n : ℕ) (x : Context) (line : List ℕ) (a : ℕ) → a < length 
 round_on m n x line a l h = mark_on m n x line a Opening (opening false) l h opening_no_space (λ c. refl)
 
 pub round_too_deep : {n : ℕ} {line : List ℕ} {a : ℕ} → a < length line → head_kind (drop a line) ≡ Opening → n ≡ 0
-    → Breaks n line a (term-fault.Unexpected a n)
+    → Breaks n line a (term_fault.Unexpected a n)
 round_too_deep {n} {line} {a} l h e =
-    breaks_there n line a a (term-fault.Unexpected a n)
+    breaks_there n line a a (term_fault.Unexpected a n)
     (misplaced line a n Opening h opening_no_quote opening_no_stray) refl (omega arith)
     (λ m x d. round_on m n x line a l h ∙ none_left n (round x) (drop a line) (drop (a + 1) line) e)
 
@@ -225,11 +225,11 @@ no_arguments {n} {line} {a} {y} {before} h l e c = record {
 }
 
 pub arguments_too_deep : {n : ℕ} {line : List ℕ} {a : ℕ} → a < length line → head_kind (drop a line) ≡ Opening → n ≡ 0
-    → ArgumentsBreak n line a (term-fault.Unexpected a n)
+    → ArgumentsBreak n line a (term_fault.Unexpected a n)
 arguments_too_deep {n} {line} {a} l h e = record {
   left = n;
   on = λ m b x. arguments_on m n b x line a h ∙ none_left n (arguments b x) (drop a line) (drop (a + 1) line) e;
-  blamed = blamed_from_before line a a (term-fault.Unexpected a n) n
+  blamed = blamed_from_before line a a (term_fault.Unexpected a n) n
       (misplaced line a n Opening h opening_no_quote opening_no_stray) refl;
   within = omega arith;
 }

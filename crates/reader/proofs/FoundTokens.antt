@@ -1,11 +1,11 @@
 -- What a term that begins with the token found is: how the reader of bytes goes on, and what is built.
-use Rattle.std.proofs.Common.{◌≡◌, ℕ, ◌+◌, ◌<◌, ◌≤◌, false, List, [], ◌∷◌, ◌++◌, length, drop, Some, None, Ok, Err, Result, sym, refl, ap, ◌∙◌, subst, inr, arith}
+use Rattle.std.proofs.Common.{◌≡◌, ℕ, ◌<◌, ◌≤◌, false, List, [], ◌∷◌, ◌++◌, length, drop, Some, None, Ok, Err, Result, sym, refl, ap, ◌∙◌, subst, inr, arith}
 use Rattle.tokens.specs.declared.kind.Kind.TheVariants.{Right, Stray}
 use Rattle.tokens.specs.declared.scan.Token.{Token as Code}
 use Rattle.tokens.specs.declared.scan.Token.TheVariants as code
 use Rattle.tokens.specs.declared.scan.Found.{Found}
 use Rattle.tokens.specs.declared.scan.TokenFault.{TokenFault}
-use Rattle.tokens.specs.declared.scan.TokenFault.TheVariants as token-fault
+use Rattle.tokens.specs.declared.scan.TokenFault.TheVariants as token_fault
 use Rattle.tokens.specs.Bytes.{past, space}
 use Rattle.tokens.specs.Token.{Token, name, scan, spaced, joined, got}
 use Rattle.tokens.specs.Scanning.{head_kind, from, scan_of, Holds, Length, TokenRead}
@@ -18,7 +18,7 @@ use Rattle.grammar.specs.Sentences.{named, at_empty, sentences}
 use Rattle.grammar.specs.Places.{taken_or, operand_by}
 use Rattle.reader.specs.declared.op.Op.{Op}
 use Rattle.reader.specs.declared.fault.TermFault.{TermFault}
-use Rattle.reader.specs.declared.fault.TermFault.TheVariants as term-fault
+use Rattle.reader.specs.declared.fault.TermFault.TheVariants as term_fault
 use Rattle.reader.specs.declared.term.Many.{Many}
 use Rattle.reader.specs.Ops.{Stack, apply, run, pushed, take_many, named as named_of}
 use Rattle.reader.specs.Reading.{Admits, is_bare, quote_open, Reaches, Breaks, Faulted, TermRead}
@@ -179,7 +179,7 @@ neck_breaks {n} {line} {pos} {a} {e} {f} g h =
 
 -- a token stands at p that may not stand there
 pub found_misplaced : (line : List ℕ) (p n : ℕ) (t : Token) (r : List ℕ) → scan spaced (drop p line) ≡ got t r
-    → Faulted line p (term-fault.Unexpected p n) n
+    → Faulted line p (term_fault.Unexpected p n) n
 found_misplaced line p n t r e = (
   refl,
   refl,
@@ -192,10 +192,10 @@ pub mark_breaks : (n : ℕ) (line : List ℕ) (pos : ℕ) (k : Code) (a e : ℕ)
     → scan_of k (drop e line) ≡ got t (drop e line) → a < e
     → ((x : Context) → Admits x (drop pos line)
     → operand_by n x (drop a line) (got t (drop e line)) ≡ bad n (drop a line))
-    → Breaks n line pos (term-fault.Unexpected a n)
+    → Breaks n line pos (term_fault.Unexpected a n)
 mark_breaks n line pos k a e t g h l p =
     let w = g.within in
-    breaks_there n line pos a (term-fault.Unexpected a n) (found_misplaced line a n t (drop e line) (g.is ∙ h))
+    breaks_there n line pos a (term_fault.Unexpected a n) (found_misplaced line a n t (drop e line) (g.is ∙ h))
     (even_before line pos k a e g) (omega arith)
     (λ m x d. operand_found m n x line pos k a e g ∙ ap (operand_by n x (drop a line)) h ∙ p x d)
 
@@ -211,7 +211,7 @@ no_empty n (among w (cons u us)) h = refl
 no_empty n (tail us x) h = refl
 
 pub right_breaks : {n : ℕ} {line : List ℕ} {pos a e : ℕ} → At line pos code.Right a e
-    → Breaks n line pos (term-fault.Unexpected a n)
+    → Breaks n line pos (term_fault.Unexpected a n)
 right_breaks {n} {line} {pos} {a} {e} g =
     let k : head_kind (past space (drop pos line)) ≡ Right = ap head_kind (sym g.starts)
     ∙ begins_as (drop a line) Right (ap mark_kind g.is) right_no_stray in
@@ -219,17 +219,17 @@ right_breaks {n} {line} {pos} {a} {e} g =
     (λ x d. ap (λ o. taken_or n o (drop a line) (drop e line)) (no_empty n x (d k)))
 
 pub end_breaks : {n : ℕ} {line : List ℕ} {pos a e : ℕ} → At line pos code.End a e
-    → Breaks n line pos (term-fault.Unexpected a n)
+    → Breaks n line pos (term_fault.Unexpected a n)
 end_breaks {n} {line} {pos} {a} {e} g =
     let l = g.long.0 in
-    breaks_there n line pos a (term-fault.Unexpected a n) (ends_there line a n (omega arith))
+    breaks_there n line pos a (term_fault.Unexpected a n) (ends_there line a n (omega arith))
     (even_before line pos code.End a e g) (omega arith)
     (λ m x d. operand_found m n x line pos code.End a e g)
 
 -- no token was found
 pub token_breaks : (n : ℕ) (line : List ℕ) (pos : ℕ) (f : TokenFault) → TokenRead line pos (Err f)
-    → Breaks n line pos (term-fault.Token f)
-token_breaks n line pos (token-fault.Stray p) h =
+    → Breaks n line pos (term_fault.Token f)
+token_breaks n line pos (token_fault.Stray p) h =
     let l = h.2 in
     record {
       left = n;
@@ -238,7 +238,7 @@ token_breaks n line pos (token-fault.Stray p) h =
       blamed = (h.2, h.3);
       within = omega arith;
     }
-token_breaks n line pos (token-fault.Unclosed p) h =
+token_breaks n line pos (token_fault.Unclosed p) h =
     let l = h.0 in
     record {
       left = n;

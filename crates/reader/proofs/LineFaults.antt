@@ -4,8 +4,7 @@ use lib.Seq.{take-length, take-append_seam}
 use Rattle.std.proofs.lemmas.List.{nil_from_length}
 use Rattle.std.proofs.lemmas.Bool.{eqb-true, eqb-false}
 use Rattle.tokens.specs.declared.kind.Kind.TheVariants.{Space, Stray}
-use Rattle.tokens.specs.declared.scan.TokenFault.TheVariants as token-fault
-use Rattle.tokens.specs.Bytes.{space}
+use Rattle.tokens.specs.declared.scan.TokenFault.TheVariants as token_fault
 use Rattle.tokens.specs.Token.{scan, joined, endless}
 use Rattle.tokens.specs.Scanning.{head_kind}
 use Rattle.tokens.proofs.BytesProperties.{head_past_the_end, space_by_kind, false_true}
@@ -19,8 +18,8 @@ use Rattle.grammar.proofs.KindProperties.{space_has_kind}
 use Rattle.grammar.proofs.PlaceProperties.{first_space}
 use Rattle.grammar.proofs.ReadingProperties.{exact}
 use Rattle.reader.specs.declared.fault.TermFault.{TermFault}
-use Rattle.reader.specs.declared.fault.TermFault.TheVariants as term-fault
-use Rattle.reader.specs.declared.fault.LineFault.TheVariants as line-fault
+use Rattle.reader.specs.declared.fault.TermFault.TheVariants as term_fault
+use Rattle.reader.specs.declared.fault.LineFault.TheVariants as line_fault
 use Rattle.reader.specs.Faults.{term_place, line_of}
 use Rattle.reader.specs.Reading.{Blamed}
 use Rattle.reader.specs.Sentence.{LineFails}
@@ -80,7 +79,7 @@ stopped g line p n h l = go (drop p line) refl (subst (λ v. Judged g line v) h 
 
 -- a space before the first token
 pub space_fails : (g : Goal) (line : List ℕ) → head_kind line ≡ Space
-    → LineFails g line (line-fault.Term (term-fault.Token (token-fault.Stray 0)))
+    → LineFails g line (line_fault.Term (term_fault.Token (token_fault.Stray 0)))
 space_fails g line h =
     let z = stopped g line 0 64 (first_space g line h) (omega arith) in
     record { fails = z.fails; blames = blames_token (inl (z.at_space refl h)); within = omega arith }
@@ -104,16 +103,16 @@ no_token line P a b (inr h) = b h
 pub line_fails : (g : Goal) (line : List ℕ) (f : TermFault) (n : ℕ) → (head_kind line ≡ Space → ⊥)
     → judged g line ≡ bad n (drop (term_place f) line) → Blamed line 0 f n
     → term_place f ≤ length line → LineFails g line (line_of f)
-line_fails g line (term-fault.Token (token-fault.Stray q)) n s h b l =
+line_fails g line (term_fault.Token (token_fault.Stray q)) n s h b l =
     let z = stopped g line q n h l in
     record { fails = z.fails; blames = blames_token (inl (z.at_stray b.0 b.1)); within = l }
-line_fails g line (term-fault.Token (token-fault.Unclosed q)) n s h b l =
+line_fails g line (term_fault.Token (token_fault.Unclosed q)) n s h b l =
     let z = stopped g line q n h l in
     record { fails = z.fails; blames = blames_token (inr (unclosed_there line q b)); within = l }
-line_fails g line (term-fault.Unexpected q k) n s h b l = go (eqb k 64) refl
+line_fails g line (term_fault.Unexpected q k) n s h b l = go (eqb k 64) refl
   where
     go : (t : Bool) → eqb k 64 ≡ t
-        → LineFails g line (cond t (line-fault.Unexpected q) (line-fault.Term (term-fault.Unexpected q k)))
+        → LineFails g line (cond t (line_fault.Unexpected q) (line_fault.Term (term_fault.Unexpected q k)))
     go true e =
         let z = stopped g line q n h l in
         let i = eqb-true k 64 e in

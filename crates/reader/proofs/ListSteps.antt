@@ -14,7 +14,7 @@ use Rattle.grammar.specs.Places.{taken_or, tail_of, after_by}
 use Rattle.reader.specs.declared.op.Op.{Op}
 use Rattle.reader.specs.declared.op.Op.TheVariants as op
 use Rattle.reader.specs.declared.fault.TermFault.{TermFault}
-use Rattle.reader.specs.declared.fault.TermFault.TheVariants as term-fault
+use Rattle.reader.specs.declared.fault.TermFault.TheVariants as term_fault
 use Rattle.reader.specs.declared.term.Many.{Many}
 use Rattle.reader.specs.Ops.{Stack, run, run_from, pushed}
 use Rattle.reader.specs.Reading.{Admits, quote_open, Reaches, Breaks, TermRead, Faulted, ManyReach, ManyBreak}
@@ -51,9 +51,9 @@ square_on : (m n : ℕ) (x : Context) (line : List ℕ) (a : ℕ) → a < length
 square_on m n x line a l h = mark_on m n x line a Left left l h left_no_space (λ c. refl)
 
 pub list_too_deep : {n : ℕ} {line : List ℕ} {a : ℕ} → a < length line → head_kind (drop a line) ≡ Left → n ≡ 0
-    → Breaks n line a (term-fault.Unexpected a n)
+    → Breaks n line a (term_fault.Unexpected a n)
 list_too_deep {n} {line} {a} l h e =
-    breaks_there n line a a (term-fault.Unexpected a n) (misplaced line a n Left h left_no_quote left_no_stray) refl
+    breaks_there n line a a (term_fault.Unexpected a n) (misplaced line a n Left h left_no_quote left_no_stray) refl
     (omega arith)
     (λ m x d. square_on m n x line a l h ∙ none_left n (square x) (drop a line) (drop (a + 1) line) e)
 

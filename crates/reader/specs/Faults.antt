@@ -1,37 +1,37 @@
 -- Faults of a text: the place of the first bad byte, and the kind.
 use Rattle.std.specs.Prelude.{ℕ, cond, ◌==◌}
 use Rattle.tokens.specs.declared.scan.TokenFault.{TokenFault}
-use Rattle.tokens.specs.declared.scan.TokenFault.TheVariants as token-fault
+use Rattle.tokens.specs.declared.scan.TokenFault.TheVariants as token_fault
 use Rattle.grammar.specs.Faults.{FaultKind, in_token, in_term, in_line}
 use Rattle.reader.specs.declared.fault.TermFault.{TermFault}
-use Rattle.reader.specs.declared.fault.TermFault.TheVariants as term-fault
+use Rattle.reader.specs.declared.fault.TermFault.TheVariants as term_fault
 use Rattle.reader.specs.declared.fault.LineFault.{LineFault}
-use Rattle.reader.specs.declared.fault.LineFault.TheVariants as line-fault
+use Rattle.reader.specs.declared.fault.LineFault.TheVariants as line_fault
 
 -- a fault of a term where no bracket is open is one of the line
 abbrev pub line_of : TermFault → LineFault
-line_of (term-fault.Token e) = line-fault.Term (term-fault.Token e)
-line_of (term-fault.Unexpected p n) = cond (n == 64) (line-fault.Unexpected p)
-    (line-fault.Term (term-fault.Unexpected p n))
+line_of (term_fault.Token e) = line_fault.Term (term_fault.Token e)
+line_of (term_fault.Unexpected p n) = cond (n == 64) (line_fault.Unexpected p)
+    (line_fault.Term (term_fault.Unexpected p n))
 
 -- the place of a fault: the index of the first bad byte
 abbrev pub token_place : TokenFault → ℕ
-token_place (token-fault.Stray p) = p
-token_place (token-fault.Unclosed p) = p
+token_place (token_fault.Stray p) = p
+token_place (token_fault.Unclosed p) = p
 
 abbrev pub term_place : TermFault → ℕ
-term_place (term-fault.Token e) = token_place e
-term_place (term-fault.Unexpected p n) = p
+term_place (term_fault.Token e) = token_place e
+term_place (term_fault.Unexpected p n) = p
 
 abbrev pub line_place : LineFault → ℕ
-line_place (line-fault.Term f) = term_place f
-line_place (line-fault.Unexpected p) = p
+line_place (line_fault.Term f) = term_place f
+line_place (line_fault.Unexpected p) = p
 
 -- the kind that a fault is told as
 abbrev pub term_kind : TermFault → FaultKind
-term_kind (term-fault.Token e) = in_token
-term_kind (term-fault.Unexpected p n) = in_term
+term_kind (term_fault.Token e) = in_token
+term_kind (term_fault.Unexpected p n) = in_term
 
 abbrev pub line_kind : LineFault → FaultKind
-line_kind (line-fault.Term f) = term_kind f
-line_kind (line-fault.Unexpected p) = in_line
+line_kind (line_fault.Term f) = term_kind f
+line_kind (line_fault.Unexpected p) = in_line

@@ -2,7 +2,7 @@
 -- how it goes on behind what they read, whatever is open around it.
 use Rattle.std.specs.Prelude.{◌≡◌, ℕ, suc, ◌+◌, ◌<◌, ◌≤◌, Bool, true, false, ◌⊎◌, List, ◌∷◌, length, drop, Some, Ok, Err, Result, ◌≢◌}
 use Rattle.tokens.specs.declared.kind.Kind.TheVariants.{Right, Comma, Stray}
-use Rattle.tokens.specs.declared.scan.TokenFault.TheVariants as token-fault
+use Rattle.tokens.specs.declared.scan.TokenFault.TheVariants as token_fault
 use Rattle.tokens.specs.Bytes.{past, space}
 use Rattle.tokens.specs.Token.{scan, joined, endless}
 use Rattle.tokens.specs.Scanning.{head_kind}
@@ -13,7 +13,7 @@ use Rattle.grammar.specs.Sentences.{sentences, operand, after, named}
 use Rattle.grammar.specs.Faults.{inside_quote}
 use Rattle.reader.specs.declared.op.Op.{Op}
 use Rattle.reader.specs.declared.fault.TermFault.{TermFault}
-use Rattle.reader.specs.declared.fault.TermFault.TheVariants as term-fault
+use Rattle.reader.specs.declared.fault.TermFault.TheVariants as term_fault
 use Rattle.reader.specs.declared.term.Many.{Many}
 use Rattle.reader.specs.Faults.{term_place}
 use Rattle.reader.specs.Ops.{run, pushed}
@@ -53,10 +53,10 @@ pub record Reaches (n : ℕ) (line : List ℕ) (pos e : ℕ) (before behind : Li
 
 -- which fault it is: of a token, or of the term with so many brackets left
 abbrev pub Blamed : List ℕ → ℕ → TermFault → ℕ → Type 0
-Blamed line pos (term-fault.Token (token-fault.Stray p)) n = (p < length line) × (head_kind (drop p line) ≡ Stray)
-Blamed line pos (term-fault.Token (token-fault.Unclosed p))
+Blamed line pos (term_fault.Token (token_fault.Stray p)) n = (p < length line) × (head_kind (drop p line) ≡ Stray)
+Blamed line pos (term_fault.Token (token_fault.Unclosed p))
     n = (scan joined (drop p line) ≡ endless) ⊎ ((p ≡ length line) × (quote_open line pos ≡ true))
-Blamed line pos (term-fault.Unexpected p k) n =
+Blamed line pos (term_fault.Unexpected p k) n =
     (k ≡ n) × (scan joined (drop p line) ≢ endless) × (p < length line → head_kind (drop p line) ≡ Stray
     → ⊥) × (length line ≤ p → quote_open line pos ≡ false)
 
@@ -70,10 +70,10 @@ pub record Breaks (n : ℕ) (line : List ℕ) (pos : ℕ) (f : TermFault) : Type
 
 -- of the byte at a place where nothing that may stand there stands
 abbrev pub Faulted : List ℕ → ℕ → TermFault → ℕ → Type 0
-Faulted line p (term-fault.Token (token-fault.Stray q))
+Faulted line p (term_fault.Token (token_fault.Stray q))
     n = (q ≡ p) × (p < length line) × (head_kind (drop p line) ≡ Stray)
-Faulted line p (term-fault.Token (token-fault.Unclosed q)) n = (q ≡ p) × (scan joined (drop p line) ≡ endless)
-Faulted line p (term-fault.Unexpected q k) n =
+Faulted line p (term_fault.Token (token_fault.Unclosed q)) n = (q ≡ p) × (scan joined (drop p line) ≡ endless)
+Faulted line p (term_fault.Unexpected q k) n =
     (q ≡ p) × (k ≡ n) × (scan joined (drop p line) ≢ endless) × (p < length line → head_kind (drop p line) ≡ Stray
     → ⊥)
 

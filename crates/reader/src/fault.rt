@@ -2,7 +2,7 @@
 
 ghost use Rattle.std.specs.Prelude.{◌≡◌};
 ghost use Rattle.reader.specs.Faults.{line_of};
-ghost use Rattle.reader.specs.declared.fault.TermFault.TheVariants.{Token as of-token};
+ghost use Rattle.reader.specs.declared.fault.TermFault.TheVariants.{Token as of_token};
 
 use tokens::scan::TokenFault;
 
@@ -24,7 +24,7 @@ pub enum LineFault {
 }
 
 impl From<TokenFault> for TermFault {
-    ghost from_gives = { λ e r. r ≡ of-token e };
+    ghost from_gives = { λ e r. r ≡ of_token e };
 
     fn from(e: TokenFault) -> TermFault {
         TermFault::Token(e)

@@ -1,5 +1,5 @@
 -- What each call of a store answers and leaves.
-use Rattle.std.specs.Prelude.{◌≡◌, ℕ, Bool, true, false, cond, ◌||◌, List, [], ◌∷◌, ◌++◌, length, Ok, Err, Result}
+use Rattle.std.specs.Prelude.{◌≡◌, ℕ, true, false, cond, ◌||◌, [], ◌∷◌, ◌++◌, length, Ok, Err, Result}
 use Rattle.rules.specs.declared.rule.Rule.{Rule}
 use Rattle.rules.specs.declared.rule.Stored.{Stored}
 use Rattle.rules.specs.declared.store.Full.{Full}

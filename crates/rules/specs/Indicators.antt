@@ -1,5 +1,5 @@
 -- Indicators: a name by its number, and a number of arguments.
-use Rattle.std.specs.Prelude.{◌≡◌, ℕ, Bool, true, false, ◌&&◌, Some, None, Option, ◌==◌, nat_le, nat_lt}
+use Rattle.std.specs.Prelude.{ℕ, Bool, ◌&&◌, ◌==◌, nat_le, nat_lt}
 
 abbrev pub fits : ℕ → ℕ → Bool
 fits name arity = nat_lt name 512 && nat_le arity 8

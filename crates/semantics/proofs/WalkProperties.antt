@@ -397,7 +397,7 @@ sound l (suc h) ρ β f q o q' c k p r (done a s i) = answers p r s i
 sound l (suc h) ρ β f q o q' c k p r (goes_on {g} {m} {q = u} {q' = u'} d e i x y) =
     by_action l h (sound l h) g m ρ β f u o u' c k p r x (l.action p.env g) d e i y refl
 sound l (suc h) ρ β f q o q' c k p r (goes_call {g} {m} {q = u} {q' = u'} x) =
-    go (sound l h) (l.action p.env (call_of g)) (l.call-calls p.env g) refl
+    go (sound l h) (l.action p.env (call_of g)) (l.call_calls p.env g) refl
   where
     go : Sound l h → (a : Action) → Calls a →
         act l (l.action p.env (call_of g)) (call_of g) m u' c p r (k []) ≡ act l a (call_of g) m u' c p r (k []) →
@@ -406,8 +406,8 @@ sound l (suc h) ρ β f q o q' c k p r (goes_call {g} {m} {q = u} {q' = u'} x) =
     go ih a (does t) e = by_calls l h ih (call_of g) m ρ β f u o u' c k p r x t e
     go ih a (errs t) e = raised l h ih (call_of g) m ρ β f u o u' c k p r x t e
 sound l (suc h) ρ β f q o q' c k p r (goes_fail {m} {q = u} {q' = u'} x) =
-    let e : step_at l (goal (on fail_goal m ∷ u') c p) r (k []) ≡ goes r (k []) = rw (l.fail-leaves p.env) in
-    rw (l.fail-leaves p.env) (claim {n = 1} {v = 1} (omega arith) (unshown f (runs_once e)) at_out)
+    let e : step_at l (goal (on fail_goal m ∷ u') c p) r (k []) ≡ goes r (k []) = rw (l.fail_leaves p.env) in
+    rw (l.fail_leaves p.env) (claim {n = 1} {v = 1} (omega arith) (unshown f (runs_once e)) at_out)
 sound l (suc h) ρ β f q o q' c k p r (goes_off {m} {d} {u = y} {q = u} {o = v} {q' = u'} {c = c'} i e a x) =
     let z : step_at l (goal [] (context m d y u' ∷ c') p) r (k []) ≡ goes r (goal u' c' p ∷ k []) = rw (e []) in
     claim_visit z (omega arith) (claim_open m (sound l h ρ β f u v u' c' k p r x))

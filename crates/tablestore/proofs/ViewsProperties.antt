@@ -4,11 +4,11 @@ use Rattle.std.proofs.lemmas.Bool.{cond-true, or_parts, or_left, le-leb, lt-leb,
 use Rattle.terms.specs.declared.node.Node.{Node}
 use Rattle.rules.specs.Meaning.{Value, End, Lawful, placed, is_full, used, ever_added, without}
 use Rattle.rules.specs.Meaning.{rule_at, is_of_rule, first_of, next_in}
-use Rattle.rules.specs.Calls.{Same, Added, Erases}
+use Rattle.rules.specs.Calls.{Added, Erases}
 use Rattle.rules.proofs.MeaningProperties.{ever_added_push, rule_at_past}
 use Rattle.tablestore.specs.declared.table.TableStore.{TableStore}
 use Rattle.tablestore.specs.declared.entry.Entry.{Entry}
-use Rattle.tablestore.specs.Entries.{value_at, values_at, inside}
+use Rattle.tablestore.specs.Entries.{value_at, inside}
 use Rattle.tablestore.specs.Rows.{below, own, place_in}
 use Rattle.tablestore.specs.Views.{rules_of, live_of, means, meaning_of}
 use Rattle.tablestore.specs.Kept.{Kept}

@@ -1,5 +1,5 @@
 -- What the table holds once it keeps a rule that is not yet live.
-use Rattle.std.specs.Prelude.{◌≡◌, ℕ, ◌+◌, ◌<◌, List, [], ◌∷◌, ◌++◌, length, vec_items, vec_len}
+use Rattle.std.specs.Prelude.{◌≡◌, ℕ, ◌+◌, ◌<◌, [], ◌∷◌, ◌++◌, vec_len}
 use Rattle.rules.specs.Meaning.{Value}
 use Rattle.tablestore.specs.declared.table.TableStore.{TableStore}
 use Rattle.tablestore.specs.Views.{rules_of}

@@ -13,7 +13,7 @@ use Rattle.terms.specs.Term as term
 use Rattle.terms.specs.Term.{Term}
 use Rattle.terms.proofs.FittingProperties.{all_below_push, all_below_more}
 use Rattle.terms.proofs.RowsProperties.{meaning_new}
-use Rattle.grammar.specs.Written.{var, int, app}
+use Rattle.grammar.specs.Written.{var, int}
 use Rattle.reader.specs.Ops.{Stack, take_many, named, joined}
 use Rattle.text.specs.declared.fault.LimitFault.{LimitFault}
 use Rattle.text.specs.declared.span.Span.{Span}
@@ -22,7 +22,7 @@ use Rattle.text.specs.Numbering.{number_of, meets, met_stack, numbered_all, numb
 use Rattle.text.specs.Limits.{entered_stack, nodes_stack, small_stack, room_for_stack, stack_fits}
 use Rattle.text.specs.Building.{cuts, meanings_at, Pushed, Built, Ends}
 use Rattle.text.proofs.StacksProperties.{Fits, fits_parts, fits_from, unfit, named_parts, named_from, named_met, named_entered, named_nodes, listed, take_many_numbered, take_many_count, take_many_size}
-use Rattle.text.proofs.EnteredProperties.{extends_trans, getD_extended, interned_brief}
+use Rattle.text.proofs.EnteredProperties.{extends_trans, get_or_extended, interned_brief}
 use Rattle.text.proofs.MeaningsProperties.{meanings_at_append, meanings_at_old, meanings_at_take, meanings_at_drop, length_meanings_at, length_numbered_stack, all_below_take, all_below_drop, together, together_listed, terms_at_together}
 
 module _ (text : List ℕ) (first : List (List ℕ)) (st : Stack) (ns : List (List ℕ)) (nodes : List Node)
@@ -227,7 +227,7 @@ module _ (text : List ℕ) (first : List (List ℕ)) (st : Stack) (ns : List (Li
           ≡ term.app f (numbered_all (met_stack (take_many arity st).stack) (take_many arity st).terms)
       means more e =
           ap (λ g. term.app g (terms_at (meanings more nodes) (take count args)))
-          (getD_extended (list_after ns f) more name f e at)
+          (get_or_extended (list_after ns f) more name f e at)
           ∙ ap (term.app f) (ap (terms_at (meanings more nodes)) ea ∙ terms_at_together more nodes (drop k places)
           ∙ ap together (meanings_at_drop more nodes k places
           ∙ ap (drop k) (b.terms_are more (extends_trans ns (list_after ns f) more ext e)) ∙ back)

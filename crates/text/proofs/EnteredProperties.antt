@@ -35,8 +35,8 @@ name_at_parts ns i f e = elim (cases_Bool (ltb i (length ns))) [ inl t ↦ here 
         let z : ◌≡◌ {A = ℕ} 0 1 = cc in
         absurd (omega arith)
 
-pub getD_extended : (ns more : List (List ℕ)) (i : ℕ) (f : List ℕ) → Extends ns more → name_at ns i ≡ Some f → get_or more i [] ≡ f
-getD_extended ns more i f ext e =
+pub get_or_extended : (ns more : List (List ℕ)) (i : ℕ) (f : List ℕ) → Extends ns more → name_at ns i ≡ Some f → get_or more i [] ≡ f
+get_or_extended ns more i f ext e =
     let two = name_at_parts ns i f e in
     sym (get_or-take (length ns) more i [] two.0) ∙ ap (λ l. get_or l i []) ext ∙ two.1
 

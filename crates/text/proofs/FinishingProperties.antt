@@ -1,17 +1,17 @@
 -- A rule or query that was built, copied into an empty row.
-use Rattle.std.proofs.Common.{◌≡◌, ℕ, suc, ◌+◌, ◌<◌, ◌≤◌, min, Bool, true, false, cond, ◌&&◌, ltb, leb, List, [], ◌∷◌, length, get_or, take, Some, None, Ok, Err, Option, sym, refl, ap, ◌∙◌, subst, inl, inr, arith}
+use Rattle.std.proofs.Common.{◌≡◌, ℕ, suc, ◌<◌, ◌≤◌, Bool, true, false, cond, ◌&&◌, ltb, List, [], ◌∷◌, length, get_or, take, Some, None, Option, sym, refl, ap, ◌∙◌, subst, inl, inr, arith}
 use Rattle.std.proofs.lemmas.List.{length-take}
-use Rattle.std.proofs.lemmas.Bool.{ltb-true, lt-ltb, leb-true, and_parts, cond-true, cases_Bool, both_ways}
+use Rattle.std.proofs.lemmas.Bool.{ltb-true, lt-ltb, and_parts, cond-true, cases_Bool, both_ways}
 use Rattle.names.specs.Listed.{Lawful, place_of}
 use Rattle.names.proofs.InternedProperties.{kept_same}
 use Rattle.terms.specs.declared.node.Node.{Node}
 use Rattle.terms.specs.declared.node.Node.TheVariants.{Var, Int, App}
-use Rattle.terms.specs.BuiltIns.{built_in, is_built_in}
+use Rattle.terms.specs.BuiltIns.{is_built_in}
 use Rattle.terms.specs.Copies.{Standard, Any, CopyOf}
 use Rattle.terms.specs.Goals.{goal_form}
 use Rattle.terms.specs.Known.{true_name}
 use Rattle.terms.specs.Places.{no_node, node_at}
-use Rattle.terms.specs.Rows.{terms_at, build, meanings, meaning, all_below, fitting, fitting_from}
+use Rattle.terms.specs.Rows.{terms_at, build, meanings, meaning, fitting, fitting_from}
 use Rattle.terms.specs.Tables.{Tabled}
 use Rattle.terms.specs.Term as term
 use Rattle.terms.specs.Term.{Term, Terms}
@@ -24,14 +24,12 @@ use Rattle.grammar.specs.Written.{Written, Writtens, var, int, app, nil, cons, s
 use Rattle.reader.specs.declared.sentence.Shape.{Shape}
 use Rattle.reader.specs.declared.sentence.Shape.TheVariants as shape
 use Rattle.reader.specs.Ops.{Stack}
-use Rattle.text.specs.declared.answer.RuleText.{RuleText}
-use Rattle.text.specs.declared.answer.QueryText.{QueryText}
 use Rattle.text.specs.declared.fault.HeadFault.{HeadFault}
-use Rattle.text.specs.declared.fault.HeadFault.TheVariants.{VariableHead, IntegerHead, BuiltInHead, IntegerBody}
+use Rattle.text.specs.declared.fault.HeadFault.TheVariants.{VariableHead, IntegerHead, BuiltInHead}
 use Rattle.text.specs.declared.span.Span.{Span}
 use Rattle.text.specs.Numbering.{Met, met, met_stack, numbered, numbered_all}
 use Rattle.text.specs.Limits.{rule_fits, query_fits, stack_fits}
-use Rattle.text.specs.Building.{cuts, Built}
+use Rattle.text.specs.Building.{Built}
 use Rattle.text.specs.Rules.{body_fault, head_fault}
 use Rattle.text.specs.Faults.{head_node_fault, body_node_fault, first_of, nodes_fault, Eight}
 use Rattle.text.specs.Finishing.{Leaves, CopiedRule, CopiedQuery}

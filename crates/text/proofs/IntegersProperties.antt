@@ -1,9 +1,9 @@
 -- The value of digits grows with each digit.
-use Rattle.std.proofs.Common.{◌≡◌, ℕ, zero, suc, ◌+◌, ◌-◌, ◌*◌, ◌<◌, ◌≤◌, min, Bool, true, false, cond, eqb, leb, List, [], ◌∷◌, length, get_or, drop, ℤ, pos, negsuc, ◌-ℤ◌, Some, None, Option, sym, refl, ap, ◌∙◌, arith, w32, w64, to_z, of_z}
+use Rattle.std.proofs.Common.{◌≡◌, ℕ, zero, suc, ◌+◌, ◌-◌, ◌*◌, ◌<◌, ◌≤◌, min, cond, leb, List, [], ◌∷◌, length, get_or, drop, pos, ◌-ℤ◌, Some, None, sym, refl, ap, ◌∙◌, arith, w32, w64, to_z, of_z}
 use Rattle.std.proofs.lemmas.List.{drop_more, drop_all}
 use Rattle.std.proofs.lemmas.Int.{ints}
-use Rattle.std.proofs.lemmas.Bool.{eq-eqb, le-leb, lt-leb}
-use Rattle.text.specs.Integers.{magnitude_from, negative, integer_of, fits_integer, read_integer}
+use Rattle.std.proofs.lemmas.Bool.{le-leb, lt-leb}
+use Rattle.text.specs.Integers.{magnitude_from, negative, read_integer}
 
 pub magnitude_grows : (n : ℕ) (s : List ℕ) → n ≤ magnitude_from n s
 magnitude_grows n [] = omega arith

@@ -1,12 +1,11 @@
 -- What a text that was read and stored, or refused, is.
-use Rattle.std.proofs.Common.{◌≡◌, ℕ, ◌≤◌, max, true, false, List, [], ◌∷◌, length, take, is_err, Some, None, Ok, Err, Result, sym, refl, ap, ◌∙◌, subst, arith}
+use Rattle.std.proofs.Common.{◌≡◌, ℕ, ◌≤◌, max, true, false, List, [], ◌∷◌, length, take, is_err, Ok, Err, Result, refl, ap, ◌∙◌, arith}
 use Rattle.std.proofs.lemmas.Bool.{false≢true}
 use Rattle.names.specs.Listed.{Extends}
 use Rattle.terms.specs.declared.node.Node.{Node}
 use Rattle.grammar.specs.Grammar.{a_rule, a_query, Text}
 use Rattle.grammar.specs.Written.{Written, Sentence, fact, rule, query}
 use Rattle.reader.specs.declared.op.Op.{Op}
-use Rattle.reader.specs.declared.fault.LineFault.{LineFault}
 use Rattle.reader.specs.declared.sentence.Shape.{Shape}
 use Rattle.reader.specs.declared.sentence.Shape.TheVariants as shape
 use Rattle.reader.specs.Ops.{run}
@@ -17,7 +16,7 @@ use Rattle.text.specs.declared.fault.LimitFault.{LimitFault}
 use Rattle.text.specs.declared.fault.TextFault.{TextFault}
 use Rattle.text.specs.declared.fault.TextFault.TheVariants.{TooLong, Grammar, Limit, Head}
 use Rattle.text.specs.declared.span.Span.{Span}
-use Rattle.text.specs.Rules.{head_of, body_of, RuleIn, RuleRefused, RuleRead, QueryIn, QueryRefused, QueryRead}
+use Rattle.text.specs.Rules.{head_of, body_of, RuleRead, QueryRead}
 use Rattle.text.specs.Building.{Built}
 use Rattle.text.specs.Limits.{query_fits}
 use Rattle.text.specs.Finishing.{Leaves, RuleFinished, RuleStored, QueryCopied, QueryAsked}

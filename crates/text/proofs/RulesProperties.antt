@@ -1,12 +1,12 @@
 -- The limits of a rule and of a query are those of the stack that they leave, with the nodes of goals.
-use Rattle.std.proofs.Common.{◌≡◌, ℕ, suc, ◌+◌, ◌<◌, ◌≤◌, Bool, true, false, ◌&&◌, eqb, leb, List, [], ◌∷◌, length, sym, refl, ap, ◌∙◌, inl, inr, arith}
+use Rattle.std.proofs.Common.{◌≡◌, ℕ, ◌+◌, ◌<◌, ◌≤◌, Bool, true, false, ◌&&◌, eqb, leb, List, [], ◌∷◌, length, inl, inr, arith}
 use Rattle.std.proofs.lemmas.Bool.{leb-true, le-leb, and_parts, and_from, cases_Bool, both_ways}
 use Rattle.terms.specs.Term.{Term, Terms, var, int, app, nil, cons, size, sizes, count}
 use Rattle.terms.specs.Goals.{goal_form, goal_forms, is_control}
 use Rattle.grammar.specs.Written.{Written}
 use Rattle.text.specs.Numbering.{met, numbered}
 use Rattle.text.specs.Limits.{small, room_for, entered, rule_fits, query_fits, stack_fits}
-use Rattle.text.proofs.StacksProperties.{Fits, fits_parts, fits_from}
+use Rattle.text.proofs.StacksProperties.{Fits, fits_from}
 
 -- the form of a goal has no fewer nodes
 mutual

@@ -1,5 +1,5 @@
 -- Nodes, places and variables, and the written terms that they stand for.
-use Rattle.std.specs.Prelude.{◌≡◌, ℕ, ◌<◌, Bool, true, false, List, [], ◌∷◌, ◌++◌, length, Ok, Err, Result}
+use Rattle.std.specs.Prelude.{◌≡◌, ℕ, ◌<◌, true, false, List, [], ◌∷◌, ◌++◌, length, Ok, Err, Result}
 use Rattle.names.specs.Listed.{Extends}
 use Rattle.terms.specs.declared.node.Node.{Node}
 use Rattle.terms.specs.Places.{takes}

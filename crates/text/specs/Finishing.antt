@@ -1,5 +1,5 @@
 -- What building a whole rule or query and copying it into a row makes of it.
-use Rattle.std.specs.Prelude.{◌≡◌, ℕ, true, false, List, [], ◌∷◌, length, Some, None, Ok, Err, vec_items, Option, Result}
+use Rattle.std.specs.Prelude.{◌≡◌, ℕ, true, false, List, [], ◌∷◌, length, Some, None, Ok, Err, vec_items, Result}
 use Rattle.terms.specs.declared.node.Node.{Node}
 use Rattle.terms.specs.declared.row.Row.{Row}
 use Rattle.terms.specs.Goals.{goal_form}
@@ -15,7 +15,6 @@ use Rattle.reader.specs.Ops.{Stack, run}
 use Rattle.text.specs.declared.answer.RuleText.{RuleText}
 use Rattle.text.specs.declared.answer.QueryText.{QueryText}
 use Rattle.text.specs.declared.builder.Builder.{Builder}
-use Rattle.text.specs.declared.fault.HeadFault.{HeadFault}
 use Rattle.text.specs.declared.fault.LimitFault.{LimitFault}
 use Rattle.text.specs.declared.fault.TextFault.{TextFault}
 use Rattle.text.specs.declared.fault.TextFault.TheVariants.{TooLong, Grammar, Limit, Head}

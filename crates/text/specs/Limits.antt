@@ -1,5 +1,5 @@
 -- The limits of a text, and the names that it brings into the table.
-use Rattle.std.specs.Prelude.{ℕ, ◌+◌, Bool, true, cond, ◌&&◌, List, [], ◌∷◌, length, is_ok, nat_le}
+use Rattle.std.specs.Prelude.{ℕ, ◌+◌, Bool, true, ◌&&◌, List, [], ◌∷◌, length, is_ok, nat_le}
 use Rattle.names.specs.Interned.{interned, list_after}
 use Rattle.terms.specs.Term as term
 use Rattle.terms.specs.Goals.{goal_form}

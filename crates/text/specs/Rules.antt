@@ -1,5 +1,5 @@
 -- What a text gives: a rule or a query in a row of nodes, or why it is refused.
-use Rattle.std.specs.Prelude.{◌≡◌, ℕ, suc, ◌<◌, ◌≤◌, Bool, true, false, cond, List, [], ◌∷◌, length, Some, None, Ok, Err, Option, Result}
+use Rattle.std.specs.Prelude.{◌≡◌, ℕ, suc, ◌<◌, Bool, true, false, cond, List, [], length, Some, None, Ok, Err, Option, Result}
 use Rattle.terms.specs.declared.node.Node.{Node}
 use Rattle.terms.specs.BuiltIns.{is_built_in}
 use Rattle.terms.specs.Goals.{goal_form}

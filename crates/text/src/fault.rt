@@ -1,7 +1,7 @@
 //! Why a text is not taken as a rule or query.
 
 ghost use Rattle.std.specs.Prelude.{◌≡◌};
-ghost use Rattle.text.specs.declared.fault.TextFault.TheVariants.{Grammar as in-grammar, Limit as in-limits};
+ghost use Rattle.text.specs.declared.fault.TextFault.TheVariants.{Grammar as in_grammar, Limit as in_limits};
 
 use names::NameFault;
 use reader::fault::LineFault;
@@ -45,7 +45,7 @@ impl From<NameFault> for LimitFault {
 }
 
 impl From<LineFault> for TextFault {
-    ghost from_gives = { λ e r. r ≡ in-grammar e };
+    ghost from_gives = { λ e r. r ≡ in_grammar e };
 
     fn from(fault: LineFault) -> TextFault {
         TextFault::Grammar(fault)
@@ -53,7 +53,7 @@ impl From<LineFault> for TextFault {
 }
 
 impl From<LimitFault> for TextFault {
-    ghost from_gives = { λ e r. r ≡ in-limits e };
+    ghost from_gives = { λ e r. r ≡ in_limits e };
 
     fn from(fault: LimitFault) -> TextFault {
         TextFault::Limit(fault)

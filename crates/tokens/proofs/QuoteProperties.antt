@@ -1,10 +1,10 @@
 -- Quoted names: each byte, each doubled quote and the closing quote at once.
-use Rattle.std.proofs.Common.{◌≡◌, ℕ, zero, suc, ◌+◌, ◌-◌, ◌<◌, ◌≤◌, Bool, true, false, cond, List, [], ◌∷◌, ◌++◌, length, get_or, take, drop, Some, None, sym, refl, ap, ◌∙◌, append_assoc, append-nil, arith, length-drop, get_or-drop}
+use Rattle.std.proofs.Common.{◌≡◌, ℕ, ◌+◌, ◌<◌, ◌≤◌, Bool, true, false, cond, List, [], ◌∷◌, ◌++◌, length, get_or, take, drop, Some, None, sym, refl, ap, ◌∙◌, append_assoc, arith}
 use Rattle.std.proofs.lemmas.List.{take_more}
 use Rattle.tokens.specs.Bytes.{quote}
-use Rattle.tokens.specs.Token.{name, inside, closed, Scan, endless, got, scanned, or_else, scan_from}
+use Rattle.tokens.specs.Token.{name, inside, closed, endless, got, or_else, scan_from}
 use Rattle.tokens.specs.Scanning.{quote_at, undouble}
-use Rattle.tokens.proofs.BytesProperties.{drop_here, drop_past_the_end, false_true}
+use Rattle.tokens.proofs.BytesProperties.{drop_here, drop_past_the_end}
 
 -- whether these bytes of a quoted name end behind the first of two quotes
 abbrev pub half : Bool → List ℕ → Bool

@@ -1,10 +1,9 @@
 -- What the definition of tokens finds at a place of a line: runs, signs and quoted names at once.
-use Rattle.std.proofs.Common.{◌≡◌, ℕ, zero, suc, ◌+◌, ◌-◌, ◌<◌, ◌≤◌, Bool, true, false, cond, ◌&&◌, List, [], ◌∷◌, ◌++◌, length, get_or, take, drop, Some, None, Option, sym, refl, ap, ◌∙◌, subst, append_assoc, append-nil, arith, length-drop, drop-drop}
-use Rattle.std.proofs.lemmas.List.{take_more}
+use Rattle.std.proofs.Common.{◌≡◌, ℕ, zero, suc, ◌+◌, ◌-◌, ◌<◌, ◌≤◌, Bool, true, false, cond, ◌&&◌, List, [], ◌∷◌, ◌++◌, length, get_or, take, drop, Some, None, sym, refl, ap, ◌∙◌, append_assoc, append-nil, arith, length-drop, drop-drop}
 use Rattle.tokens.specs.declared.kind.Kind.{Kind}
-use Rattle.tokens.specs.Bytes.{class, past, longest, same, word, digit, symbol, quote}
-use Rattle.tokens.specs.Token.{Token, name, variable, integer, run, Part, small_run, capital_run, digits, symbols, inside, closed, single, Edge, start_as, advance, ended, Scan, nothing, endless, got, scanned, or_else, scan_from, scan, minus_bytes}
-use Rattle.tokens.specs.Scanning.{head_kind, digit_at, quote_at, undouble}
+use Rattle.tokens.specs.Bytes.{past, longest, same, word, digit, symbol}
+use Rattle.tokens.specs.Token.{Token, name, variable, integer, run, Part, small_run, capital_run, digits, symbols, single, Edge, start_as, advance, ended, Scan, nothing, got, scanned, or_else, scan_from, scan, minus_bytes}
+use Rattle.tokens.specs.Scanning.{head_kind, digit_at}
 use Rattle.tokens.proofs.BytesProperties.{drop_here, head_here, false_true}
 
 -- a token by the kind of its first byte

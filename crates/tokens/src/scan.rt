@@ -2,7 +2,7 @@
 
 ghost use Rattle.std.specs.Prelude.{◌≡◌, ◌+◌, ◌^◌, ◌<◌, ◌≤◌, true, ◌&&◌, length, drop, ◌≢◌};
 ghost use Rattle.tokens.specs.Bytes.{in_run, past, same};
-ghost use Rattle.tokens.specs.declared.kind.Kind.TheVariants.{Symbol as a_symbol, Quote as a_quote, Space as a-space};
+ghost use Rattle.tokens.specs.declared.kind.Kind.TheVariants.{Symbol as a_symbol, Quote as a_quote, Space as a_space};
 ghost use Rattle.tokens.specs.Token.{neck_bytes, minus_bytes};
 ghost use Rattle.tokens.specs.Scanning.{head_kind, Inside, QuoteRead, TokenRead, StartsAs, Stands, RunKind, digit_at, quote_at};
 
@@ -225,7 +225,7 @@ fn run_token<'a>(line: &'a [u8], start: usize) -> Found<'a>
 
 // The token that begins at `start`, where no space stands.
 fn token_at<'a>(line: &'a [u8], start: usize) -> Result<Found<'a>, TokenFault>
-    requires { (start < length line.now) × ((head_kind (drop start line.now) ≢ a-space)) }
+    requires { (start < length line.now) × ((head_kind (drop start line.now) ≢ a_space)) }
     ensures { StartsAs line.now start result }
 {
     match kind_at(line, start) {

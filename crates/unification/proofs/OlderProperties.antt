@@ -46,14 +46,14 @@ module _ (R : Rest) (good : (ps qs : Terms) → Aged (R ps qs)) where
       before_aged τ (R (applys τ ps) (applys τ qs)) b (good (applys τ ps) (applys τ qs))
 
   mutual
-    unifyT_aged : (s t : Term) → Aged (unify_t R s t)
-    unifyT_aged (var x) t = unify_var_aged x t
-    unifyT_aged (int i) (var y) = unify_var_aged y (int i)
-    unifyT_aged (int i) (int j) = cond_both (same_int i j) (some []) none Aged (λ e. tt) (λ e. tt)
-    unifyT_aged (int i) (app g qs) = tt
-    unifyT_aged (app f ps) (var y) = unify_var_aged y (app f ps)
-    unifyT_aged (app f ps) (int j) = tt
-    unifyT_aged (app f ps) (app g qs) =
+    unify_t_aged : (s t : Term) → Aged (unify_t R s t)
+    unify_t_aged (var x) t = unify_var_aged x t
+    unify_t_aged (int i) (var y) = unify_var_aged y (int i)
+    unify_t_aged (int i) (int j) = cond_both (same_int i j) (some []) none Aged (λ e. tt) (λ e. tt)
+    unify_t_aged (int i) (app g qs) = tt
+    unify_t_aged (app f ps) (var y) = unify_var_aged y (app f ps)
+    unify_t_aged (app f ps) (int j) = tt
+    unify_t_aged (app f ps) (app g qs) =
         cond_both (same f g) (unify_ts R ps qs) none Aged (λ e. unify_ts_aged ps qs) (λ e. tt)
 
     unify_ts_aged : (ps qs : Terms) → Aged (unify_ts R ps qs)
@@ -61,7 +61,7 @@ module _ (R : Rest) (good : (ps qs : Terms) → Aged (R ps qs)) where
     unify_ts_aged nil (cons q qs) = tt
     unify_ts_aged (cons p ps) nil = tt
     unify_ts_aged (cons p ps) (cons q qs) =
-        after_aged ps qs (unify_ts R ps qs) (unify_t R p q) (unify_ts_aged ps qs) (unifyT_aged p q)
+        after_aged ps qs (unify_ts R ps qs) (unify_t R p q) (unify_ts_aged ps qs) (unify_t_aged p q)
 
 rest_aged : (n : ℕ) (ps qs : Terms) → Aged (rest n ps qs)
 rest_aged zero ps qs = tt
@@ -72,4 +72,4 @@ under_older σ s t a σ' e =
     let p = apply σ s in
     let q = apply σ t in
     let n = length (vars p ++ vars q) in
-    subst Aged e (before_aged σ (unify p q) a (unifyT_aged (rest n) (rest_aged n) p q))
+    subst Aged e (before_aged σ (unify p q) a (unify_t_aged (rest n) (rest_aged n) p q))

@@ -11,7 +11,7 @@ use Rattle.unification.proofs.VariablesProperties.{all_left, all_right}
 use Rattle.unification.proofs.BindingsProperties.{as_sub, apply_int, apply_app, applys_nil, applys_cons, applys_append}
 use Rattle.unification.proofs.ChainProperties.{chain_length, chain_alls}
 use Rattle.unification.proofs.SolvedProperties.{tuple, Unifies, Solved, joined, apart}
-use Rattle.unification.proofs.UnifyingProperties.{unifyT_solved, rest_solved}
+use Rattle.unification.proofs.UnifyingProperties.{unify_t_solved, rest_solved}
 use Rattle.unification.proofs.CountProperties.{unify_at_enough, rest_enough, unify_solved}
 
 before_nothing : (o : Answer) → before [] o ≡ o
@@ -26,7 +26,7 @@ before_before σ τ (some ρ) = ap some (sym (append_assoc σ τ ρ))
 pub unifys_cons : (p q : Term) (ps qs : Terms)
     → unifys (cons p ps) (cons q qs) ≡ and_then (unify p q) (λ σ. before σ (unifys (applys σ ps) (applys σ qs)))
 unifys_cons p q ps qs =
-    go (unify_at n p q) (unifyT_solved vs (rest n) (rest_solved n) p q a.0 b.0)
+    go (unify_at n p q) (unify_t_solved vs (rest n) (rest_solved n) p q a.0 b.0)
     ∙ ap (λ o. and_then o (λ σ. before σ (unifys (applys σ ps) (applys σ qs))))
     (unify_at_enough p q vs n a.0 b.0 (omega arith))
   where

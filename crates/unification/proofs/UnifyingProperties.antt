@@ -93,14 +93,14 @@ int_solved {vs} i j =
 
 module _ (vs : List ℕ) (R : Rest) (good : Solves vs R) where
   mutual
-    pub unifyT_solved : (s t : Term) → All (In vs) s → All (In vs) t → Solved vs (Unifies s t) (unify_t R s t)
-    unifyT_solved (var x) t a b = unify_var_solved vs x t a b
-    unifyT_solved (int i) (var y) a b = solved_sym (var y) (int i) (unify_var_solved vs y (int i) b a)
-    unifyT_solved (int i) (int j) a b = int_solved i j
-    unifyT_solved (int i) (app g qs) a b = apart (λ θ e. let z : ◌≡◌ {A = ℕ} 0 1 = cc in omega arith)
-    unifyT_solved (app f ps) (var y) a b = solved_sym (var y) (app f ps) (unify_var_solved vs y (app f ps) b a)
-    unifyT_solved (app f ps) (int j) a b = apart (λ θ e. let z : ◌≡◌ {A = ℕ} 0 1 = cc in omega arith)
-    unifyT_solved (app f ps) (app g qs) a b = name_solved f g ps qs (unify_ts_solved ps qs a b)
+    pub unify_t_solved : (s t : Term) → All (In vs) s → All (In vs) t → Solved vs (Unifies s t) (unify_t R s t)
+    unify_t_solved (var x) t a b = unify_var_solved vs x t a b
+    unify_t_solved (int i) (var y) a b = solved_sym (var y) (int i) (unify_var_solved vs y (int i) b a)
+    unify_t_solved (int i) (int j) a b = int_solved i j
+    unify_t_solved (int i) (app g qs) a b = apart (λ θ e. let z : ◌≡◌ {A = ℕ} 0 1 = cc in omega arith)
+    unify_t_solved (app f ps) (var y) a b = solved_sym (var y) (app f ps) (unify_var_solved vs y (app f ps) b a)
+    unify_t_solved (app f ps) (int j) a b = apart (λ θ e. let z : ◌≡◌ {A = ℕ} 0 1 = cc in omega arith)
+    unify_t_solved (app f ps) (app g qs) a b = name_solved f g ps qs (unify_ts_solved ps qs a b)
 
     unify_ts_solved : (ps qs : Terms) → Alls (In vs) ps → Alls (In vs) qs
         → Solved vs (Unifies (tuple ps) (tuple qs)) (unify_ts R ps qs)
@@ -108,7 +108,7 @@ module _ (vs : List ℕ) (R : Rest) (good : Solves vs R) where
     unify_ts_solved nil (cons q qs) a b = apart (λ θ e. let z : ◌≡◌ {A = ℕ} 0 1 = cc in omega arith)
     unify_ts_solved (cons p ps) nil a b = apart (λ θ e. let z : ◌≡◌ {A = ℕ} 0 1 = cc in omega arith)
     unify_ts_solved (cons p ps) (cons q qs) a b =
-        after_solved vs p q ps qs R good (unifyT_solved p q a.0 b.0) (unify_ts_solved ps qs a.1 b.1)
+        after_solved vs p q ps qs R good (unify_t_solved p q a.0 b.0) (unify_ts_solved ps qs a.1 b.1)
         a.1 b.1
 
 pub rest_solved : (n : ℕ) (vs : List ℕ) (ps qs : Terms) → length vs < n → Alls (In vs) ps → Alls (In vs) qs

@@ -172,32 +172,32 @@ list_from : {t u : Written} → Reads t → Reads u → (n : ℕ) → arguments_
     → (x : Context) (us : Writtens) (r : List ℕ)
     → from (operand n (among (square x) us)) (arguments_text in_list (cons t (cons u nil)) ++ r)
     ≡ from (after (list_of us (pair dot_name t u)) (suc n) x) r
-list_from {t} {u} reads-t reads-u n h x us r =
+list_from {t} {u} reads_t reads_u n h x us r =
     let k = others_two in_list n t u h in
     ap (from (operand n (among (square x) us))) (two (text_at alone t) (text_at in_list u) r)
-    ∙ operand_leads (text_at alone t) t n (reads-t.leads n k.0) (among (square x) us) (text_at in_list u ++ r)
+    ∙ operand_leads (text_at alone t) t n (reads_t.leads n k.0) (among (square x) us) (text_at in_list u ++ r)
     (behind_in_list u (among (square x) us) r)
-    ∙ reads-u.ends_list n k.1 x t us r
+    ∙ reads_u.ends_list n k.1 x t us r
     ∙ ap (λ w. from (after w (suc n) x) r) (list_nests us t u)
 
 list_leads : {t u : Written} → Reads t → Reads u → (n : ℕ) → readable_as alone n list (cons t (cons u nil)) ≡ true
     → Leads (text_as alone list dot_name (cons t (cons u nil))) (pair dot_name t u) n
-list_leads {t} {u} reads-t reads-u zero h e x r b = false_true h
-list_leads {t} {u} reads-t reads-u (suc n) h e x r b =
+list_leads {t} {u} reads_t reads_u zero h e x r b = false_true h
+list_leads {t} {u} reads_t reads_u (suc n) h e x r b =
     single_on (arguments_text in_list (cons t (cons u nil)) ++ r) left (operand (suc n) x)
     (operand n (among (square x) nil)) refl
-    ∙ list_from reads-t reads-u n h x nil r
+    ∙ list_from reads_t reads_u n h x nil r
 
 list_reads : {t u : Written} → Reads t → Reads u → ReadsAs list dot_name (cons t (cons u nil))
-list_reads {t} {u} reads-t reads-u = record {
-  leads = list_leads reads-t reads-u;
+list_reads {t} {u} reads_t reads_u = record {
+  leads = list_leads reads_t reads_u;
   ends_list = λ n h x v us r.
       single_on (arguments_text in_list (cons t (cons u nil)) ++ r) comma (after v n (among (square x) us))
       (operand n (among (square x) (with_last us v))) refl
-      ∙ list_from reads-t reads-u n h x (with_last us v) r;
+      ∙ list_from reads_t reads_u n h x (with_last us v) r;
   ends_conjunction =
       λ n h. as_right (text_as alone list dot_name (cons t (cons u nil))) (pair dot_name t u) n
-      (list_leads reads-t reads-u n h);
+      (list_leads reads_t reads_u n h);
 }
 
 -- a conjunction
@@ -219,33 +219,33 @@ conjunction_from : {t u : Written} → Reads t → Reads u → (n : ℕ)
     → arguments_readable in_conjunction n (cons t (cons u nil)) ≡ true → (x : Context) (us : Writtens) (r : List ℕ)
     → from (operand n (among (round x) us)) (arguments_text in_conjunction (cons t (cons u nil)) ++ r)
     ≡ from (after (conj (with_last us (pair comma_name t u))) (suc n) x) r
-conjunction_from {t} {u} reads-t reads-u n h x us r =
+conjunction_from {t} {u} reads_t reads_u n h x us r =
     let k = others_two in_conjunction n t u h in
     ap (from (operand n (among (round x) us))) (two (text_at alone t) (text_at in_conjunction u) r)
-    ∙ operand_leads (text_at alone t) t n (reads-t.leads n k.0) (among (round x) us) (text_at in_conjunction u ++ r)
+    ∙ operand_leads (text_at alone t) t n (reads_t.leads n k.0) (among (round x) us) (text_at in_conjunction u ++ r)
     (behind_in_conjunction u (among (round x) us) r)
-    ∙ reads-u.ends_conjunction n k.1 x t us r
+    ∙ reads_u.ends_conjunction n k.1 x t us r
     ∙ ap (λ w. from (after w (suc n) x) r) (conj_nests us t u)
 
 conjunction_leads : {t u : Written} → Reads t → Reads u → (n : ℕ)
     → readable_as alone n conjunction (cons t (cons u nil)) ≡ true
     → Leads (text_as alone conjunction comma_name (cons t (cons u nil))) (pair comma_name t u) n
-conjunction_leads {t} {u} reads-t reads-u zero h e x r b = false_true h
-conjunction_leads {t} {u} reads-t reads-u (suc n) h e x r b =
+conjunction_leads {t} {u} reads_t reads_u zero h e x r b = false_true h
+conjunction_leads {t} {u} reads_t reads_u (suc n) h e x r b =
     single_on (arguments_text in_conjunction (cons t (cons u nil)) ++ r) (opening (is_joined e)) (operand (suc n) x)
     (operand n (among (round x) nil)) refl
-    ∙ conjunction_from reads-t reads-u n h x nil r
+    ∙ conjunction_from reads_t reads_u n h x nil r
 
 conjunction_reads : {t u : Written} → Reads t → Reads u → ReadsAs conjunction comma_name (cons t (cons u nil))
-conjunction_reads {t} {u} reads-t reads-u = record {
-  leads = conjunction_leads reads-t reads-u;
+conjunction_reads {t} {u} reads_t reads_u = record {
+  leads = conjunction_leads reads_t reads_u;
   ends_list =
       λ n h. as_tail (text_as alone conjunction comma_name (cons t (cons u nil))) (pair comma_name t u) n
-      (conjunction_leads reads-t reads-u n h);
+      (conjunction_leads reads_t reads_u n h);
   ends_conjunction = λ n h x v us r.
       single_on (arguments_text in_conjunction (cons t (cons u nil)) ++ r) comma (after v n (among (round x) us))
       (operand n (among (round x) (with_last us v))) refl
-      ∙ conjunction_from reads-t reads-u n h x (with_last us v) r;
+      ∙ conjunction_from reads_t reads_u n h x (with_last us v) r;
 }
 
 -- any name with arguments, by its form

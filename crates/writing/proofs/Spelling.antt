@@ -1,6 +1,6 @@
 -- How many bytes the tokens of a text take: a name that is not bare takes two more than its own.
-use Rattle.std.proofs.Common.{◌≡◌, ℕ, suc, ◌+◌, ◌≤◌, Bool, true, false, cond, not, ◌&&◌, ◌||◌, eqb, List, [], ◌∷◌, ◌++◌, length, Some, None, Option, sym, refl, ap, ◌∙◌, subst, arith, length-append, eqb-true}
-use mathlib.Core.Bool.{or_true}
+use Rattle.std.proofs.Common.{◌≡◌, ℕ, suc, ◌+◌, ◌≤◌, Bool, true, false, cond, ◌&&◌, ◌||◌, eqb, List, [], ◌∷◌, ◌++◌, length, Some, None, Option, sym, refl, ap, ◌∙◌, subst, arith, length-append, eqb-true}
+use mathlib.Core.Bool.{or-true}
 use Rattle.tokens.specs.declared.kind.Kind.{Kind}
 use Rattle.tokens.specs.declared.kind.Kind.TheVariants.{Small, Capital, Digit, Symbol, Solo, Quote, Opening, Closing, Left, Right, Bar, Comma, Stop, Space, Stray}
 use Rattle.tokens.specs.Bytes.{small, capital, digit, symbol, word, quote, space, same}
@@ -60,7 +60,7 @@ all_more f (d ∷ s) c h k =
     let b = and_both (f d) (all f s) h in ap (λ t. t && all f (s ++ c ∷ [])) b.0 ∙ all_more f s c b.1 k
 
 bare_symbols : (d : ℕ) (s : List ℕ) → all symbol (d ∷ s) ≡ true → same (d ∷ s) neck_bytes ≡ false → bare (d ∷ s) ≡ true
-bare_symbols d s h k = simp (h, k, or_true)
+bare_symbols d s h k = simp (h, k, or-true)
 
 solo_bare : (c : ℕ) → eqb c 59 || eqb c 33 ≡ true → bare (c ∷ []) ≡ true
 solo_bare c h =

@@ -61,11 +61,11 @@ pub run_on : (f : List ℕ → Part) (test : ℕ → Bool) (p : Place)
     → ((bs : List ℕ) (c : ℕ) → test c ≡ true → advance (f bs) c ≡ Some (f (bs ++ c ∷ [])))
     → ((bs : List ℕ) → hope_within sentences (f bs) p ≡ true) → (s bs r : List ℕ) → all test s ≡ true
     → reading (s ++ r) (within (f bs)) p ≡ reading r (within (f (bs ++ s))) p
-run_on f test p step-on hopes [] bs r h = ap (λ l. reading r (within (f l)) p) (sym (append-nil bs))
-run_on f test p step-on hopes (c ∷ s) bs r h =
+run_on f test p step_on hopes [] bs r h = ap (λ l. reading r (within (f l)) p) (sym (append-nil bs))
+run_on f test p step_on hopes (c ∷ s) bs r h =
     let b = and_both (test c) (all test s) h in
-    goes_on (f bs) (f (bs ++ c ∷ [])) p c (s ++ r) (step-on bs c b.0) (hopes (bs ++ c ∷ []))
-    ∙ run_on f test p step-on hopes s (bs ++ c ∷ []) r b.1
+    goes_on (f bs) (f (bs ++ c ∷ [])) p c (s ++ r) (step_on bs c b.0) (hopes (bs ++ c ∷ []))
+    ∙ run_on f test p step_on hopes s (bs ++ c ∷ []) r b.1
     ∙ ap (λ l. reading r (within (f l)) p) (append_assoc bs (c ∷ []) s)
 
 -- a quoted name up to the quote that ends it

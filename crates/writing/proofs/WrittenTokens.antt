@@ -1,10 +1,10 @@
 -- Written names, variables and integers are read as themselves where a term must begin.
 use Rattle.std.proofs.Common.{◌≡◌, ℕ, Bool, true, false, cond, not, ◌&&◌, ◌||◌, eqb, List, [], ◌∷◌, ◌++◌, Some, None, codes, sym, refl, ap, ◌∙◌, subst, append_assoc, arith, eqb-true}
-use mathlib.Core.Bool.{and_false}
+use mathlib.Core.Bool.{and-false}
 use Rattle.std.proofs.lemmas.Bool.Decides.{nat_tests}
 use Rattle.tokens.specs.declared.kind.Kind.TheVariants.{Small, Capital, Digit, Symbol}
 use Rattle.tokens.specs.Bytes.{small, capital, digit, symbol, word, quote, space, class, same}
-use Rattle.tokens.specs.Token.{name, variable, integer, neck, small_run, capital_run, digits, symbols, inside, closed, Edge, start_as, advance, ended, run, neck_bytes, minus_bytes}
+use Rattle.tokens.specs.Token.{name, variable, integer, neck, small_run, capital_run, digits, symbols, inside, closed, Edge, start_as, advance, ended, neck_bytes, minus_bytes}
 use Rattle.grammar.specs.Written.{var, int}
 use Rattle.grammar.specs.Machine.{within, edge}
 use Rattle.grammar.specs.Sentences.{operand, named, after, Context}
@@ -104,7 +104,7 @@ module _ (c : ℕ) (r : List ℕ) (n : ℕ) (x : Context) (z : cuts c ≡ true) 
       ap (λ t. cond t (Some (symbols (bs ++ c ∷ [])))
       (cond (same bs minus_bytes && digit c) (Some (digits (bs ++ c ∷ []))) None)) (ends c z).no_symbol
       ∙ ap (λ t. cond (same bs minus_bytes && t) (Some (digits (bs ++ c ∷ []))) None) (ends c z).no_digit
-      ∙ ap (λ t. cond t (Some (digits (bs ++ c ∷ []))) None) (and_false (same bs minus_bytes))
+      ∙ ap (λ t. cond t (Some (digits (bs ++ c ∷ []))) None) (and-false (same bs minus_bytes))
 
   a_name_run : (bs : List ℕ) → not (same bs neck_bytes) ≡ true → ended (symbols bs) ≡ Some (name bs)
   a_name_run bs h = go (same bs neck_bytes) h

@@ -8,26 +8,26 @@ returns-in_err-many c =
     let p = err_from_is_err_and c.from_residual.result c.from_residual.ensures.1 in
     rw (p.1, p.2) (record {
       read = goals_break c.in_err-many.ensures.read;
-      same-room = c.terms.ensures.same-room;
+      same_room = c.terms.ensures.same_room;
     })
 
-pub returns-in_err-ended : goal.returns-in_err-ended
-returns-in_err-ended c =
-    let p = err_from_is_err_and c.from_residual-in_err-ended.result c.from_residual-in_err-ended.ensures.1 in
-    let h = c.in_err-ended.ensures in
+pub returns-in_err-ended-in-Stop : goal.returns-in_err-ended-in-Stop
+returns-in_err-ended-in-Stop c =
+    let p = err_from_is_err_and c.from_residual-in_err-ended-in-Stop.result c.from_residual-in_err-ended-in-Stop.ensures.1 in
+    let h = c.in_err-ended-in-Stop.ensures in
     rw (p.1, p.2) (record {
-      read = goals_go_on c.run_end-stop.result c.in_err-ended.field-0.0
+      read = goals_go_on c.run_end-stop.result c.in_err-ended-in-Stop.field-0.0
           c.in_ok-many.ensures.read
           c.run_end-stop.ensures.value c.in-Stop.ensures.value h.0 h.1;
-      same-room = c.terms.ensures.same-room;
+      same_room = c.terms.ensures.same_room;
     })
 
-pub returns-in_ok-ended : goal.returns-in_ok-ended
-returns-in_ok-ended c = record {
+pub returns-in_ok-ended-in-Stop : goal.returns-in_ok-ended-in-Stop
+returns-in_ok-ended-in-Stop c = record {
   read = goals_reach c.run_end-stop.result c.in_ok-many.ensures.read
       c.run_end-stop.ensures.value
-      c.in-Stop.ensures.value c.in_ok-ended.ensures c.repeat.ensures.items;
-  same-room = c.repeat.ensures.same-room ∙ c.terms.ensures.same-room;
+      c.in-Stop.ensures.value c.in_ok-ended-in-Stop.ensures c.repeat.ensures.items;
+  same_room = c.repeat.ensures.same_room ∙ c.terms.ensures.same_room;
 }
 
 pub returns-in_default : goal.returns-in_default
@@ -38,5 +38,5 @@ returns-in_default c =
           (c.run_end-stop.ensures.within.1 g.within)
           (λ e. c.in_default.not-Stop (c.kind_at.ensures.value ∙ e))
           c.unexpected.ensures;
-      same-room = c.terms.ensures.same-room;
+      same_room = c.terms.ensures.same_room;
     }

@@ -9,21 +9,21 @@ pub returns-in-Space : goal.returns-in-Space
 returns-in-Space c =
     record {
       read = space_fails a_query c.args.line.now (sym c.in-Space.ensures.value);
-      same-room = refl;
+      same_room = refl;
     }
 
-pub returns-in_err-goals : goal.returns-in_err-goals
-returns-in_err-goals c =
+pub returns-in_err-goals-in_default : goal.returns-in_err-goals-in_default
+returns-in_err-goals-in_default c =
     let p = err_from_is_err_and c.from_residual.result c.from_residual.ensures.1 in
     rw (p.1, p.2) (record {
-      read = query_fails c.args.line.now c.in_err-goals.field-0.0
-          (λ e. c.in_default.not-Space (c.kind_at.ensures.value ∙ e)) c.in_err-goals.ensures.read;
-      same-room = c.goals.ensures.same-room;
+      read = query_fails c.args.line.now c.in_err-goals-in_default.field-0.0
+          (λ e. c.in_default.not-Space (c.kind_at.ensures.value ∙ e)) c.in_err-goals-in_default.ensures.read;
+      same_room = c.goals.ensures.same_room;
     })
 
-pub returns-in_ok-goals : goal.returns-in_ok-goals
-returns-in_ok-goals c = record {
+pub returns-in_ok-goals-in_default : goal.returns-in_ok-goals-in_default
+returns-in_ok-goals-in_default c = record {
   read = query_read c.requires.empty (λ e. c.in_default.not-Space (c.kind_at.ensures.value ∙ e))
-      c.in_ok-goals.ensures.read;
-  same-room = c.goals.ensures.same-room;
+      c.in_ok-goals-in_default.ensures.read;
+  same_room = c.goals.ensures.same_room;
 }

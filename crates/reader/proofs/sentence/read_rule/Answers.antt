@@ -6,5 +6,5 @@ use Rattle.reader.proofs.sentence.read_rule.Goals as goal
 pub returns-in-Space : goal.returns-in-Space
 returns-in-Space c = record {
   read = space_fails a_rule c.args.line.now (sym c.in-Space.ensures.value);
-  same-room = refl;
+  same_room = refl;
 }

@@ -10,53 +10,53 @@ returns-in_err-head c =
     rw (p.1, p.2) (record {
       read = head_fails c.args.line.now c.in_err-head.field-0.0 c.requires.empty.1
           c.in_err-head.ensures.read;
-      same-room = c.term.ensures.same-room;
+      same_room = c.term.ensures.same_room;
     })
 
-pub returns-in_err-ended : goal.returns-in_err-ended
-returns-in_err-ended c =
-    let p = err_from_is_err_and c.from_residual-in_err-ended.result c.from_residual-in_err-ended.ensures.1 in
-    let h = c.in_err-ended.ensures in
+pub returns-in_err-ended-in-Stop : goal.returns-in_err-ended-in-Stop
+returns-in_err-ended-in-Stop c =
+    let p = err_from_is_err_and c.from_residual-in_err-ended-in-Stop.result c.from_residual-in_err-ended-in-Stop.ensures.1 in
+    let h = c.in_err-ended-in-Stop.ensures in
     rw (p.1, p.2) (record {
-      read = fact_goes_on c.run_end-next.result c.in_err-ended.field-0.0
+      read = fact_goes_on c.run_end-next.result c.in_err-ended-in-Stop.field-0.0
           c.in_ok-head.ensures.read c.requires.empty.1
           c.run_end-next.ensures.value c.in-Stop.ensures.value h.0 h.1;
-      same-room = c.term.ensures.same-room;
+      same_room = c.term.ensures.same_room;
     })
 
-pub returns-in_err-pos : goal.returns-in_err-pos
-returns-in_err-pos c =
-    let p = err_from_is_err_and c.from_residual-in_err-pos.result c.from_residual-in_err-pos.ensures.1 in
+pub returns-in_err-pos-in-Symbol : goal.returns-in_err-pos-in-Symbol
+returns-in_err-pos-in-Symbol c =
+    let p = err_from_is_err_and c.from_residual-in_err-pos-in-Symbol.result c.from_residual-in_err-pos-in-Symbol.ensures.1 in
     rw (p.1, p.2) (record {
-      read = neck_fails c.run_end-next.result c.in_err-pos.field-0.0
+      read = neck_fails c.run_end-next.result c.in_err-pos-in-Symbol.field-0.0
           c.in_ok-head.ensures.read c.requires.empty.1
-          c.run_end-next.ensures.value c.in_err-pos.ensures;
-      same-room = c.term.ensures.same-room;
+          c.run_end-next.ensures.value c.in_err-pos-in-Symbol.ensures;
+      same_room = c.term.ensures.same_room;
     })
 
-pub returns-in_err-goals : goal.returns-in_err-goals
-returns-in_err-goals c =
-    let p = err_from_is_err_and c.from_residual-in_err-goals.result c.from_residual-in_err-goals.ensures.1 in
+pub returns-in_err-goals-in-Symbol : goal.returns-in_err-goals-in-Symbol
+returns-in_err-goals-in-Symbol c =
+    let p = err_from_is_err_and c.from_residual-in_err-goals-in-Symbol.result c.from_residual-in_err-goals-in-Symbol.ensures.1 in
     rw (p.1, p.2) (record {
-      read = body_fails c.run_end-next.result c.in_err-goals.field-0.0
+      read = body_fails c.run_end-next.result c.in_err-goals-in-Symbol.field-0.0
           c.in_ok-head.ensures.read c.requires.empty.1
-          c.run_end-next.ensures.value c.in_ok-pos.ensures c.in_err-goals.ensures.read;
-      same-room = c.goals.ensures.same-room ∙ c.term.ensures.same-room;
+          c.run_end-next.ensures.value c.in_ok-pos-in-Symbol.ensures c.in_err-goals-in-Symbol.ensures.read;
+      same_room = c.goals.ensures.same_room ∙ c.term.ensures.same_room;
     })
 
-pub returns-in_ok-ended : goal.returns-in_ok-ended
-returns-in_ok-ended c = record {
+pub returns-in_ok-ended-in-Stop : goal.returns-in_ok-ended-in-Stop
+returns-in_ok-ended-in-Stop c = record {
   read = fact_read c.run_end-next.result c.requires.empty.0 c.in_ok-head.ensures.read
       c.requires.empty.1
-      c.run_end-next.ensures.value c.in-Stop.ensures.value c.in_ok-ended.ensures;
-  same-room = c.term.ensures.same-room;
+      c.run_end-next.ensures.value c.in-Stop.ensures.value c.in_ok-ended-in-Stop.ensures;
+  same_room = c.term.ensures.same_room;
 }
 
-pub returns-in_ok-goals : goal.returns-in_ok-goals
-returns-in_ok-goals c = record {
+pub returns-in_ok-goals-in-Symbol : goal.returns-in_ok-goals-in-Symbol
+returns-in_ok-goals-in-Symbol c = record {
   read = rule_read c.requires.empty.0 c.in_ok-head.ensures.read c.requires.empty.1
-      c.run_end-next.ensures.value c.in_ok-pos.ensures c.in_ok-goals.ensures.read;
-  same-room = c.goals.ensures.same-room ∙ c.term.ensures.same-room;
+      c.run_end-next.ensures.value c.in_ok-pos-in-Symbol.ensures c.in_ok-goals-in-Symbol.ensures.read;
+  same_room = c.goals.ensures.same_room ∙ c.term.ensures.same_room;
 }
 
 pub returns-in_default : goal.returns-in_default
@@ -68,5 +68,5 @@ returns-in_default c =
           (c.run_end-next.ensures.within.1 g.within)
           (λ e. c.in_default.not-Stop (c.kind_at.ensures.value ∙ e))
           (λ e. c.in_default.not-Symbol (c.kind_at.ensures.value ∙ e)) c.unexpected.ensures;
-      same-room = c.term.ensures.same-room;
+      same_room = c.term.ensures.same_room;
     }

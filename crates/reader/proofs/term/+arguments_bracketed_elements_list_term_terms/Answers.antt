@@ -6,7 +6,7 @@ use Rattle.tokens.specs.declared.scan.Found.{Found}
 use Rattle.tokens.specs.Scanning.{TokenRead, undouble}
 use Rattle.grammar.specs.Written.{var, int}
 use Rattle.reader.specs.declared.op.Op.TheVariants as op
-use Rattle.reader.specs.declared.fault.TermFault.TheVariants as term-fault
+use Rattle.reader.specs.declared.fault.TermFault.TheVariants as term_fault
 use Rattle.reader.specs.Ops.{run, take_many, named}
 use Rattle.reader.specs.Reading.{Breaks}
 use Rattle.reader.proofs.TokenKinds.{mark_kind, begins_as, opening_no_stray, left_no_stray}
@@ -25,22 +25,22 @@ arguments-returns-then-left-eq0 t c =
     record {
       read = arguments_too_deep o.inside (sym o.value) c.if-left-eq0.true;
       fitted = tt;
-      same-room = refl;
+      same_room = refl;
     }
 
-pub arguments-returns-in_err-many : goal.arguments-returns-in_err-many
-arguments-returns-in_err-many t c =
+pub arguments-returns-in_err-many-in-Opening : goal.arguments-returns-in_err-many-in-Opening
+arguments-returns-in_err-many-in-Opening t c =
     let p = err_from_is_err_and c.from_residual.result c.from_residual.ensures.1 in
     rw (p.1, p.2) (record {
       read = arguments_break (sym c.in-Opening.ensures.value) (omega arith)
-          c.in_err-many.ensures.read;
+          c.in_err-many-in-Opening.ensures.read;
       fitted = tt;
-      same-room = c.terms.ensures.same-room;
+      same_room = c.terms.ensures.same_room;
     })
 
 pub arguments-returns-in-Closing : goal.arguments-returns-in-Closing
 arguments-returns-in-Closing t c =
-    let g = c.in_ok-many.ensures in
+    let g = c.in_ok-many-in-Opening.ensures in
     let k = c.in-Closing.ensures in
     let w = c.run_end-close.ensures.within.0 in
     let f = g.fitted in
@@ -49,26 +49,26 @@ arguments-returns-in-Closing t c =
           (sym c.in-Opening.ensures.value) (omega arith) g.read c.run_end-close.ensures.value w
           k.value k.inside refl refl;
       fitted = omega arith;
-      same-room = c.terms.ensures.same-room;
+      same_room = c.terms.ensures.same_room;
     }
 
 pub arguments-returns-in_default-kind_at : goal.arguments-returns-in_default-kind_at
 arguments-returns-in_default-kind_at t c =
-    let g = c.in_ok-many.ensures in
+    let g = c.in_ok-many-in-Opening.ensures in
     record {
       read = arguments_unclosed
           (sym c.in-Opening.ensures.value) (omega arith) g.read c.run_end-close.ensures.value
           (c.run_end-close.ensures.within.1 g.read.within)
           (λ e. c.in_default-kind_at.not-Closing (c.kind_at-in-Opening.ensures.value ∙ e)) c.unexpected.ensures;
       fitted = tt;
-      same-room = c.terms.ensures.same-room;
+      same_room = c.terms.ensures.same_room;
     }
 
 pub arguments-returns-in_default : goal.arguments-returns-in_default
 arguments-returns-in_default t c = record {
   read = no_arguments (λ e. c.in_default.not-Opening (c.kind_at.ensures.value ∙ e)) c.requires.within refl refl;
   fitted = omega arith;
-  same-room = refl;
+  same_room = refl;
 }
 
 pub bracketed-returns-then-left-eq0 : goal.bracketed-returns-then-left-eq0
@@ -76,7 +76,7 @@ bracketed-returns-then-left-eq0 t c =
     record {
       read = round_too_deep c.requires.within.0 c.requires.within.1 c.if-left-eq0.true;
       fitted = tt;
-      same-room = refl;
+      same_room = refl;
     }
 
 pub bracketed-returns-in_err-many : goal.bracketed-returns-in_err-many
@@ -85,7 +85,7 @@ bracketed-returns-in_err-many t c =
     rw (p.1, p.2) (record {
       read = round_breaks c.requires.within.0 c.requires.within.1 (omega arith) c.in_err-many.ensures.read;
       fitted = tt;
-      same-room = c.terms.ensures.same-room;
+      same_room = c.terms.ensures.same_room;
     })
 
 pub bracketed-returns-in-Closing : goal.bracketed-returns-in-Closing
@@ -101,7 +101,7 @@ bracketed-returns-in-Closing t c =
           c.requires.within.0 c.requires.within.1 (omega arith) g.read c.run_end-close.ensures.value w
           k.value k.inside c.repeat.ensures.items;
       fitted = omega arith;
-      same-room = c.repeat.ensures.same-room ∙ c.terms.ensures.same-room;
+      same_room = c.repeat.ensures.same_room ∙ c.terms.ensures.same_room;
     }
 
 pub bracketed-returns-in_default : goal.bracketed-returns-in_default
@@ -113,7 +113,7 @@ bracketed-returns-in_default t c =
           (c.run_end-close.ensures.within.1 g.read.within)
           (λ e. c.in_default.not-Closing (c.kind_at.ensures.value ∙ e)) c.unexpected.ensures;
       fitted = tt;
-      same-room = c.terms.ensures.same-room;
+      same_room = c.terms.ensures.same_room;
     }
 
 pub elements-returns-in_err-many : goal.elements-returns-in_err-many
@@ -122,18 +122,18 @@ elements-returns-in_err-many t c =
     rw (p.1, p.2) (record {
       read = elements_break c.requires.within.1 c.in_err-many.ensures.read;
       fitted = tt;
-      same-room = c.terms.ensures.same-room;
+      same_room = c.terms.ensures.same_room;
     })
 
-pub elements-returns-in_err-end : goal.elements-returns-in_err-end
-elements-returns-in_err-end t c =
-    let p = err_from_is_err_and c.from_residual-in_err-end.result c.from_residual-in_err-end.ensures.1 in
+pub elements-returns-in_err-end-in-Bar : goal.elements-returns-in_err-end-in-Bar
+elements-returns-in_err-end-in-Bar t c =
+    let p = err_from_is_err_and c.from_residual-in_err-end-in-Bar.result c.from_residual-in_err-end-in-Bar.ensures.1 in
     let g = c.in_ok-many.ensures in
     rw (p.1, p.2) (record {
       read = tail_breaks c.run_end-close.result c.requires.within.1 g.read c.run_end-close.ensures.value
-          c.in-Bar.ensures.value c.in_err-end.ensures.read;
+          c.in-Bar.ensures.value c.in_err-end-in-Bar.ensures.read;
       fitted = tt;
-      same-room = c.term.ensures.same-room ∙ c.terms.ensures.same-room;
+      same_room = c.term.ensures.same_room ∙ c.terms.ensures.same_room;
     })
 
 pub elements-returns-in-Right : goal.elements-returns-in-Right
@@ -148,13 +148,13 @@ elements-returns-in-Right t c =
       read = elements_reach c.requires.within.1 g.read c.run_end-close.ensures.value w k.value k.inside
           c.push_reserved.ensures.items c.repeat.ensures.items;
       fitted = omega arith;
-      same-room = c.repeat.ensures.same-room ∙ c.push_reserved.ensures.capacity ∙ c.terms.ensures.same-room;
+      same_room = c.repeat.ensures.same_room ∙ c.push_reserved.ensures.capacity ∙ c.terms.ensures.same_room;
     }
 
 pub elements-returns-in-Right-kind_at : goal.elements-returns-in-Right-kind_at
 elements-returns-in-Right-kind_at t c =
     let g = c.in_ok-many.ensures in
-    let h = c.in_ok-end.ensures in
+    let h = c.in_ok-end-in-Bar.ensures in
     let k = c.in-Right-kind_at.ensures in
     let v = c.run_end-close.ensures.within.0 in
     let w = c.run_end-last.ensures.within.0 in
@@ -166,21 +166,21 @@ elements-returns-in-Right-kind_at t c =
           c.requires.within.1 g.read c.run_end-close.ensures.value v c.in-Bar.ensures.value h.read
           c.run_end-last.ensures.value w k.value k.inside c.repeat-in-Right-kind_at.ensures.items;
       fitted = omega arith;
-      same-room = c.repeat-in-Right-kind_at.ensures.same-room ∙ c.term.ensures.same-room
-          ∙ c.terms.ensures.same-room;
+      same_room = c.repeat-in-Right-kind_at.ensures.same_room ∙ c.term.ensures.same_room
+          ∙ c.terms.ensures.same_room;
     }
 
 pub elements-returns-in_default-kind_at : goal.elements-returns-in_default-kind_at
 elements-returns-in_default-kind_at t c =
     let g = c.in_ok-many.ensures in
-    let h = c.in_ok-end.ensures in
+    let h = c.in_ok-end-in-Bar.ensures in
     record {
       read = tail_unclosed c.run_end-close.result
           c.requires.within.1 g.read c.run_end-close.ensures.value c.in-Bar.ensures.value h.read
           c.run_end-last.ensures.value (c.run_end-last.ensures.within.1 h.read.within)
           (λ e. c.in_default-kind_at.not-Right (c.kind_at-in-Bar.ensures.value ∙ e)) c.unexpected.ensures;
       fitted = tt;
-      same-room = c.term.ensures.same-room ∙ c.terms.ensures.same-room;
+      same_room = c.term.ensures.same_room ∙ c.terms.ensures.same_room;
     }
 
 pub elements-returns-in_default : goal.elements-returns-in_default
@@ -192,7 +192,7 @@ elements-returns-in_default t c =
           (λ e. c.in_default.not-Right (c.kind_at.ensures.value ∙ e))
           (λ e. c.in_default.not-Bar (c.kind_at.ensures.value ∙ e)) c.unexpected-in_default.ensures;
       fitted = tt;
-      same-room = c.terms.ensures.same-room;
+      same_room = c.terms.ensures.same_room;
     }
 
 pub list-returns-then-left-eq0 : goal.list-returns-then-left-eq0
@@ -200,7 +200,7 @@ list-returns-then-left-eq0 t c =
     record {
       read = list_too_deep c.requires.within.0 c.requires.within.1 c.if-left-eq0.true;
       fitted = tt;
-      same-room = refl;
+      same_room = refl;
     }
 
 pub list-returns-in-Right : goal.list-returns-in-Right
@@ -213,7 +213,7 @@ list-returns-in-Right t c =
           c.requires.within.0 c.requires.within.1 (omega arith) c.run_end-first.ensures.value w k.value
           k.inside c.push_reserved.ensures.items;
       fitted = omega arith;
-      same-room = c.push_reserved.ensures.capacity;
+      same_room = c.push_reserved.ensures.capacity;
     }
 
 pub list-returns-in_default : goal.list-returns-in_default
@@ -223,7 +223,7 @@ list-returns-in_default t c = record {
       c.requires.within.0 c.requires.within.1 (omega arith) c.elements.ensures.read;
   fitted = list_fitted c.elements.result c.args.start (vec_len c.args.ops.now)
       (vec_len c.elements.new.ops) c.elements.ensures.fitted;
-  same-room = c.elements.ensures.same-room;
+  same_room = c.elements.ensures.same_room;
 }
 
 pub term-returns-in_err-found : goal.term-returns-in_err-found
@@ -233,35 +233,35 @@ term-returns-in_err-found t c =
     rw (p.1, p.2) (record {
       read = token_breaks c.args.left c.args.line.now c.args.pos f c.in_err-found.ensures;
       fitted = tt;
-      same-room = refl;
+      same_room = refl;
     })
 
-pub term-returns-in_err-closed : goal.term-returns-in_err-closed
-term-returns-in_err-closed t c =
-    let p = err_from_is_err_and c.from_residual-in_err-closed.result c.from_residual-in_err-closed.ensures.1
+pub term-returns-in_err-closed-in-Name : goal.term-returns-in_err-closed-in-Name
+term-returns-in_err-closed-in-Name t c =
+    let p = err_from_is_err_and c.from_residual-in_err-closed-in-Name.result c.from_residual-in_err-closed-in-Name.ensures.1
     in
     let x = c.in_ok-found.found in
     let k = code.Name c.in-Name.field-0 in
     let g = at_token c.args.line.now c.args.pos x k c.in_ok-found.ensures c.requires.within
     c.in-Name.is in
     rw (p.1, p.2) (record {
-      read = name_breaks _ g refl c.in_err-closed.ensures.read;
+      read = name_breaks _ g refl c.in_err-closed-in-Name.ensures.read;
       fitted = tt;
-      same-room = c.arguments.ensures.same-room;
+      same_room = c.arguments.ensures.same_room;
     })
 
-pub term-returns-in_err-closed-2 : goal.term-returns-in_err-closed-2
-term-returns-in_err-closed-2 t c =
-    let p = err_from_is_err_and c.from_residual-in_err-closed-2.result
-    c.from_residual-in_err-closed-2.ensures.1 in
+pub term-returns-in_err-closed-in-Quoted : goal.term-returns-in_err-closed-in-Quoted
+term-returns-in_err-closed-in-Quoted t c =
+    let p = err_from_is_err_and c.from_residual-in_err-closed-in-Quoted.result
+    c.from_residual-in_err-closed-in-Quoted.ensures.1 in
     let x = c.in_ok-found.found in
     let k = code.Quoted c.in-Quoted.field-0 in
     let g = at_token c.args.line.now c.args.pos x k c.in_ok-found.ensures c.requires.within
     c.in-Quoted.is in
     rw (p.1, p.2) (record {
-      read = name_breaks _ g refl c.in_err-closed-2.ensures.read;
+      read = name_breaks _ g refl c.in_err-closed-in-Quoted.ensures.read;
       fitted = tt;
-      same-room = c.arguments-in-Quoted.ensures.same-room;
+      same_room = c.arguments-in-Quoted.ensures.same_room;
     })
 
 pub term-bracketed-requires : goal.term-bracketed-requires
@@ -315,7 +315,7 @@ term-returns-in-Variable t c =
           g refl g.long (λ y. refl) (ap (λ b. var b ∷ run c.args.line.now before) (sym g.holds))
           c.push_reserved.ensures.items;
       fitted = omega arith;
-      same-room = c.push_reserved.ensures.capacity;
+      same_room = c.push_reserved.ensures.capacity;
     }
 
 pub term-returns-in-Integer : goal.term-returns-in-Integer
@@ -333,14 +333,14 @@ term-returns-in-Integer t c =
           g refl g.long (λ y. refl) (ap (λ b. int b ∷ run c.args.line.now before) (sym g.holds))
           c.push_reserved-in-Integer.ensures.items;
       fitted = omega arith;
-      same-room = c.push_reserved-in-Integer.ensures.capacity;
+      same_room = c.push_reserved-in-Integer.ensures.capacity;
     }
 
-pub term-returns-in_ok-closed : goal.term-returns-in_ok-closed
-term-returns-in_ok-closed t c =
+pub term-returns-in_ok-closed-in-Name : goal.term-returns-in_ok-closed-in-Name
+term-returns-in_ok-closed-in-Name t c =
     let x = c.in_ok-found.found in
-    let y = c.in_ok-closed.closed in
-    let h = c.in_ok-closed.ensures in
+    let y = c.in_ok-closed-in-Name.closed in
+    let h = c.in_ok-closed-in-Name.ensures in
     let k = code.Name c.in-Name.field-0 in
     let b = c.in-Name.field-0.now in
     let g = at_token c.args.line.now c.args.pos x k c.in_ok-found.ensures c.requires.within
@@ -354,14 +354,14 @@ term-returns-in_ok-closed t c =
           g refl g.long h.read (λ st. ap (λ b. named b (take_many y.count st)) (sym g.holds))
           c.push_reserved-in-Name.ensures.items;
       fitted = omega arith;
-      same-room = c.push_reserved-in-Name.ensures.capacity ∙ c.arguments.ensures.same-room;
+      same_room = c.push_reserved-in-Name.ensures.capacity ∙ c.arguments.ensures.same_room;
     }
 
-pub term-returns-in_ok-closed-2 : goal.term-returns-in_ok-closed-2
-term-returns-in_ok-closed-2 t c =
+pub term-returns-in_ok-closed-in-Quoted : goal.term-returns-in_ok-closed-in-Quoted
+term-returns-in_ok-closed-in-Quoted t c =
     let x = c.in_ok-found.found in
-    let y = c.in_ok-closed-2.closed in
-    let h = c.in_ok-closed-2.ensures in
+    let y = c.in_ok-closed-in-Quoted.closed in
+    let h = c.in_ok-closed-in-Quoted.ensures in
     let k = code.Quoted c.in-Quoted.field-0 in
     let b = undouble false c.in-Quoted.field-0.now in
     let g = at_token c.args.line.now c.args.pos x k c.in_ok-found.ensures c.requires.within
@@ -375,7 +375,7 @@ term-returns-in_ok-closed-2 t c =
           g refl g.long h.read (λ st. ap (λ b. named (undouble false b) (take_many y.count st))
           (sym g.holds.1)) c.push_reserved-in-Quoted.ensures.items;
       fitted = omega arith;
-      same-room = c.push_reserved-in-Quoted.ensures.capacity ∙ c.arguments-in-Quoted.ensures.same-room;
+      same_room = c.push_reserved-in-Quoted.ensures.capacity ∙ c.arguments-in-Quoted.ensures.same_room;
     }
 
 pub term-returns-in-Opening : goal.term-returns-in-Opening
@@ -389,7 +389,7 @@ term-returns-in-Opening t c =
           c.bracketed.ensures.read;
       fitted = fitted_later c.bracketed.result c.args.pos x.start (vec_len c.args.ops.now)
           (vec_len c.bracketed.new.ops) g.later c.bracketed.ensures.fitted;
-      same-room = c.bracketed.ensures.same-room;
+      same_room = c.bracketed.ensures.same_room;
     }
 
 pub term-returns-in-Left : goal.term-returns-in-Left
@@ -403,7 +403,7 @@ term-returns-in-Left t c =
           c.list.ensures.read;
       fitted = fitted_later c.list.result c.args.pos x.start (vec_len c.args.ops.now)
           (vec_len c.list.new.ops) g.later c.list.ensures.fitted;
-      same-room = c.list.ensures.same-room;
+      same_room = c.list.ensures.same_room;
     }
 
 pub term-returns-in-Neck : goal.term-returns-in-Neck
@@ -414,7 +414,7 @@ term-returns-in-Neck t c =
     record {
       read = neck_breaks g c.unexpected.ensures;
       fitted = tt;
-      same-room = refl;
+      same_room = refl;
     }
 
 -- tokens that begin no term
@@ -422,7 +422,7 @@ no_term : (n : ℕ) (line : List ℕ) (pos : ℕ) (x : Found) → TokenRead line
     → (x.token ≡ code.Closing) ⊎ ((x.token
     ≡ code.Right) ⊎ ((x.token
     ≡ code.Bar) ⊎ ((x.token ≡ code.Comma) ⊎ ((x.token ≡ code.Stop) ⊎ (x.token ≡ code.End)))))
-    → Breaks n line pos (term-fault.Unexpected x.start n)
+    → Breaks n line pos (term_fault.Unexpected x.start n)
 no_term n line pos x h l (inl e) = let g = at_token line pos x code.Closing h l e in mark_breaks n line pos
     code.Closing x.start x.end _ g refl g.long (λ y d. refl)
 no_term n line pos x h l (inr (inl e)) = right_breaks (at_token line pos x code.Right h l e)
@@ -439,7 +439,7 @@ term-returns-in-Closing t c = record {
   read = no_term c.args.left c.args.line.now c.args.pos c.in_ok-found.found
       c.in_ok-found.ensures c.requires.within c.in-Closing.is;
   fitted = tt;
-  same-room = refl;
+  same_room = refl;
 }
 
 pub terms-loop-end-init : goal.terms-loop-end-init
@@ -457,7 +457,7 @@ terms-returns-in_err-end t c =
     rw (p.1, p.2) (record {
       read = none_more c.loop-end.invariant.4 c.in_err-end.ensures.read;
       fitted = tt;
-      same-room = c.term.ensures.same-room ∙ c.loop-end.invariant.3;
+      same_room = c.term.ensures.same_room ∙ c.loop-end.invariant.3;
     })
 
 pub terms-loop-end-preserved : goal.terms-loop-end-preserved
@@ -473,7 +473,7 @@ terms-loop-end-preserved t c =
       omega arith,
       omega arith,
       omega arith,
-      c.term.ensures.same-room ∙ c.loop-end.invariant.3,
+      c.term.ensures.same_room ∙ c.loop-end.invariant.3,
       one_more c.run_end-next.result c.loop-end.invariant.4 h.read c.run_end-next.ensures.value k.value,
     )
 
@@ -487,5 +487,5 @@ terms-returns-in_default t c =
       read = the_last c.run_end-next.result c.loop-end.invariant.4 h.read c.run_end-next.ensures.value
           (λ e. c.in_default.not-Comma (c.kind_at.ensures.value ∙ e)) (omega arith) refl refl;
       fitted = omega arith;
-      same-room = c.term.ensures.same-room ∙ c.loop-end.invariant.3;
+      same_room = c.term.ensures.same_room ∙ c.loop-end.invariant.3;
     }

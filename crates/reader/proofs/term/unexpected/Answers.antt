@@ -5,7 +5,7 @@ use Rattle.tokens.specs.Bytes.{space}
 use Rattle.tokens.specs.Token.{scan, spaced, joined}
 use Rattle.tokens.specs.Scanning.{head_kind, TokenRead}
 use Rattle.tokens.proofs.BytesProperties.{head_here, past_stops}
-use Rattle.reader.specs.declared.fault.TermFault.TheVariants as term-fault
+use Rattle.reader.specs.declared.fault.TermFault.TheVariants as term_fault
 use Rattle.reader.specs.Reading.{Faulted}
 use Rattle.reader.proofs.BlameProperties.{misplaced, ends_there}
 use Rattle.reader.proofs.TokenKinds.{found_not_endless}
@@ -15,7 +15,7 @@ use Rattle.reader.proofs.term.unexpected.Goals as goal
 
 -- a quoted name that is closed
 closed_name : (line : List ℕ) (p n : ℕ) (f : Found) → p < length line → Quote ≡ head_kind (drop p line)
-    → TokenRead line p (Ok f) → Faulted line p (term-fault.Unexpected p n) n
+    → TokenRead line p (Ok f) → Faulted line p (term_fault.Unexpected p n) n
 closed_name line p n f l k h =
     let s = past_stops space line p l (no_space (get_or line p 0)
     (λ e. let y = k ∙ head_here line p l ∙ e in let z : ◌≡◌ {A = ℕ} 0 1 = cc in omega arith)) in (

@@ -41,8 +41,8 @@ lay-requires t c =
     let inside = c.requires in
     (omega arith, omega arith)
 
-pub returns-in_err-place : goal.returns-in_err-place
-returns-in_err-place t c =
+pub returns-in_err-place-in-App : goal.returns-in_err-place-in-App
+returns-in_err-place-in-App t c =
     let s = c.args.source.now in
     let h = c.args.target.now in
     let e = read_as (row_nodes s) c.nodes.result.now c.args.at
@@ -53,7 +53,7 @@ returns-in_err-place t c =
     let none = subst (λ n. Laid (Reads c.passes_on-inner.result)
     (λ ns. formed c.passes_on-inner.result (meaning ns (row_nodes s) c.argument.result)) n
     (row_nodes c.loop-k.target) (row_nodes c.lay.new.target) None) i.0
-    c.in_err-place.ensures.laid in
+    c.in_err-place-in-App.ensures.laid in
     record {
       limit = c.lay.ensures.limit ∙ i.0;
       laid = subst (λ o. Laid (Reads c.args.goal)
@@ -85,9 +85,9 @@ loop-k-preserved t c =
     let eight = c.argument.ensures.eight in
     let more = part_more c.passes_on-inner.result (row_nodes s) (row_nodes c.args.target.now)
     (row_nodes c.loop-k.target) (row_nodes c.lay.new.target) c.in-App.args c.loop-k.places
-    c.loop-k.k c.argument.result c.in_ok-place.place (omega arith) (omega arith)
-    c.argument.ensures.value i.3 c.in_ok-place.ensures.laid in
-    let eight' = length-set c.loop-k.places c.loop-k.k c.in_ok-place.place ∙ i.1 in
+    c.loop-k.k c.argument.result c.in_ok-place-in-App.place (omega arith) (omega arith)
+    c.argument.ensures.value i.3 c.in_ok-place-in-App.ensures.laid in
+    let eight' = length-set c.loop-k.places c.loop-k.k c.in_ok-place-in-App.place ∙ i.1 in
     (c.lay.ensures.limit ∙ i.0, eight', omega arith, more)
 
 pub returns-after-loop-k : goal.returns-after-loop-k

@@ -1,18 +1,10 @@
 -- Head and body fit into the row together, or the rule does not.
-use Rattle.std.proofs.Common.{◌≡◌, ℕ, ◌<◌, ◌≤◌, List, [], ◌∷◌, length, get_or, Some, None, vec_items, sym, refl, ap, ◌∙◌, subst, arith}
-use Rattle.terms.specs.Copies.{Standard, Any, CopyOf}
+use Rattle.std.proofs.Common.{◌≤◌, [], ◌∷◌, length, Some, None, vec_items, refl, ap, ◌∙◌, arith}
+use Rattle.terms.specs.Copies.{Standard, Any}
 use Rattle.terms.specs.Goals.{goal_form}
 use Rattle.terms.specs.RowViews.{row_nodes, row_limit}
-use Rattle.terms.proofs.RowViewsProperties.{row_nodes_few, row_nodes_fitting}
-use Rattle.text.proofs.FinishingProperties.{
-  Two,
-  built_two,
-  built_variables,
-  copy_moved,
-  rule_copied,
-  head_refused,
-  body_refused,
-}
+use Rattle.terms.proofs.RowViewsProperties.{row_nodes_few}
+use Rattle.text.proofs.FinishingProperties.{built_two, built_variables, copy_moved, rule_copied, head_refused, body_refused}
 use Rattle.text.proofs.finish.copy_rule.Goals as goal
 
 pub returns-in_default : goal.returns-in_default

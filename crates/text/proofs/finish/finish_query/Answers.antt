@@ -1,9 +1,9 @@
 -- The query fits into the row, or it passes a limit.
-use Rattle.std.proofs.Common.{◌≡◌, ℕ, ◌<◌, ◌≤◌, List, [], ◌∷◌, length, get_or, Some, None, vec_items, sym, refl, ap, ◌∙◌, subst, arith}
-use Rattle.terms.specs.Copies.{Standard, Any, CopyOf}
+use Rattle.std.proofs.Common.{◌≤◌, [], ◌∷◌, length, get_or, Some, None, vec_items, sym, ap, ◌∙◌, arith}
+use Rattle.terms.specs.Copies.{Standard}
 use Rattle.terms.specs.Goals.{goal_form}
 use Rattle.terms.specs.RowViews.{row_nodes, row_limit}
-use Rattle.terms.proofs.RowViewsProperties.{row_nodes_few, row_nodes_fitting}
+use Rattle.terms.proofs.RowViewsProperties.{row_nodes_few}
 use Rattle.text.proofs.BuiltProperties.{built_length}
 use Rattle.text.proofs.FinishingProperties.{
   one_place,

@@ -1,13 +1,10 @@
 -- The rule fits and can be stored, or why not.
-use Rattle.std.proofs.Common.{◌≡◌, ℕ, ◌<◌, ◌≤◌, List, [], ◌∷◌, length, get_or, Some, None, Ok, Err, vec_items, Result, sym, refl, ap, ◌∙◌, subst, arith}
-use Rattle.terms.specs.Copies.{Standard, Any, CopyOf}
-use Rattle.terms.specs.Goals.{goal_form}
-use Rattle.terms.specs.RowViews.{row_nodes, row_limit}
-use Rattle.terms.proofs.RowViewsProperties.{row_nodes_few, row_nodes_fitting}
+use Rattle.std.proofs.Common.{List, [], ◌∷◌, length, get_or, Err, vec_items, Result, sym, ap, ◌∙◌, subst}
+use Rattle.terms.specs.RowViews.{row_nodes}
+use Rattle.terms.proofs.RowViewsProperties.{row_nodes_fitting}
 use Rattle.std.proofs.lemmas.Result.{err_from_is_err_and}
 use Rattle.text.specs.declared.answer.RuleText.{RuleText}
 use Rattle.text.specs.declared.fault.TextFault.{TextFault}
-use Rattle.text.specs.declared.fault.TextFault.TheVariants.{Limit}
 use Rattle.text.specs.Faults.{Eight, nodes_fault}
 use Rattle.text.specs.Finishing.{RuleFinished}
 use Rattle.terms.specs.declared.node.Node.{Node}

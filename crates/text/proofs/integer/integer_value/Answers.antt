@@ -1,5 +1,5 @@
 -- With a sign before the digits.
-use Rattle.std.proofs.Common.{◌≡◌, length, take, drop, Some, None, sym, refl, ap, ◌∙◌}
+use Rattle.std.proofs.Common.{Some, ap, ◌∙◌}
 use Rattle.std.proofs.lemmas.List.{take_rest}
 use Rattle.text.proofs.IntegersProperties.{negative_is, read_integer_negative, read_integer_below}
 use Rattle.text.proofs.integer.integer_value.Goals as goal

@@ -1,5 +1,5 @@
 -- One digit more, or the value is already too large.
-use Rattle.std.proofs.Common.{◌≡◌, ℕ, ◌+◌, ◌-◌, ◌*◌, min, get_or, drop, sym, ap, ◌∙◌, arith}
+use Rattle.std.proofs.Common.{◌≡◌, ◌+◌, ◌-◌, ◌*◌, min, get_or, drop, sym, ap, ◌∙◌, arith}
 use Rattle.text.specs.Integers.{magnitude_from}
 use Rattle.text.proofs.IntegersProperties.{magnitude_digit, magnitude_large, magnitude_end}
 use Rattle.text.proofs.integer.magnitude.Goals as goal

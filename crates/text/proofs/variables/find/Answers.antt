@@ -1,9 +1,9 @@
 -- A variable that has another name leaves the search to those after it.
-use Rattle.std.proofs.Common.{◌≡◌, ℕ, false, cond, get_or, Some, None, Option, sym, ap, ◌∙◌}
+use Rattle.std.proofs.Common.{◌≡◌, false, cond, None, sym, ap, ◌∙◌}
 use Rattle.std.proofs.lemmas.Slice.Eq.{slice_eq-Decides}
 use Rattle.std.proofs.lemmas.Bool.Decides.{not_from_Decides, Decides-eqb}
 use Rattle.text.specs.declared.span.Span.{Span}
-use Rattle.text.specs.Numbering.{found_from, found_in, is_lone}
+use Rattle.text.specs.Numbering.{found_from, is_lone}
 use Rattle.text.specs.Building.{cuts}
 use Rattle.text.proofs.NumberingProperties.{found_here, found_later, found_end}
 use Rattle.text.proofs.variables.find.Goals as goal

@@ -1,5 +1,5 @@
 -- An earlier variable of the same name, or one more.
-use Rattle.std.proofs.Common.{◌≡◌, ℕ, ◌+◌, ◌<◌, List, [], ◌∷◌, ◌++◌, length, Some, None, vec_items, sym, refl, ap, ◌∙◌, arith, rules}
+use Rattle.std.proofs.Common.{◌≡◌, ◌<◌, [], ◌∷◌, ◌++◌, length, Some, vec_items, sym, refl, ap, ◌∙◌, arith, rules}
 use Rattle.std.proofs.lemmas.List.{length_push}
 use Rattle.text.specs.declared.span.Span.{Span}
 use Rattle.text.specs.Numbering.{found_in, number_of, meets}
@@ -13,8 +13,8 @@ found c =
     c.in-Some.ensures
     ∙ ap (λ ss. found_in (cuts c.args.text.now ss) c.part-name.result.now) c.as_slice.ensures.value
 
-pub overflow-cast-result : goal.overflow-cast-result
-overflow-cast-result c =
+pub overflow_cast-result : goal.overflow_cast-result
+overflow_cast-result c =
     let ss = vec_items c.args.variables.now in
     let l = number_below (cuts c.args.text.now ss) c.part-name.result.now c.in-Some.known (found c) in
     let n = length_cuts c.args.text.now ss in
@@ -27,8 +27,8 @@ returns-in-Some c =
     let old = number_old e c.part-name.result.now c.in-Some.known (found c) in
     let a = c.part-name.ensures in
     record {
-      same-room = refl;
-      still-few = c.requires.few;
+      same_room = refl;
+      still_few = c.requires.few;
       value = (old.0 ∙ ap (number_of e) a, old.1 ∙ ap (meets e) a);
     }
 
@@ -40,7 +40,7 @@ returns-then-next-ge-MAX_VARIABLES c =
     let more = ap length (new.1 ∙ ap (meets e) c.part-name.ensures) in
     let one = length_push e c.part-name.result.now in
     let all = length_cuts c.args.text.now (vec_items c.args.variables.now) in
-    record { same-room = refl; still-few = c.requires.few; value = omega arith }
+    record { same_room = refl; still_few = c.requires.few; value = omega arith }
 
 pub returns : goal.returns
 returns c =
@@ -54,8 +54,8 @@ returns c =
     let next : c.len-next.result ≡ length e = omega arith in
     let here : Span = record { start = c.args.start; end = c.args.end } in
     record {
-      same-room = c.push_reserved.ensures.capacity;
-      still-few = (let n = c.push_reserved.ensures.len in omega arith);
+      same_room = c.push_reserved.ensures.capacity;
+      still_few = (let n = c.push_reserved.ensures.len in omega arith);
       value = (
         next ∙ new.0 ∙ ap (number_of e) a,
         ap (cuts text) c.push_reserved.ensures.items ∙ cuts_push text ss here

@@ -1,11 +1,10 @@
-use Rattle.std.proofs.Common.{◌≡◌, ℕ, ◌+◌, ◌<◌, ◌≤◌, Bool, true, false, List, [], ◌∷◌, length, get_or, drop, Ok, Err, Result, sym, refl, ap, ◌∙◌, subst, arith}
-use Rattle.tokens.specs.declared.kind.Kind.TheVariants.{Space}
+use Rattle.std.proofs.Common.{◌≡◌, ℕ, ◌+◌, ◌≤◌, List, length, get_or, drop, Ok, Err, Result, sym, refl, ap, ◌∙◌, arith}
 use Rattle.tokens.specs.declared.scan.Found.{Found}
 use Rattle.tokens.specs.declared.scan.TokenFault.{TokenFault}
 use Rattle.tokens.specs.declared.scan.TokenFault.TheVariants as fault
-use Rattle.tokens.specs.Bytes.{class, space}
+use Rattle.tokens.specs.Bytes.{space}
 use Rattle.tokens.specs.Token.{spaced, scan}
-use Rattle.tokens.specs.Scanning.{head_kind, from, StartsAs, TokenRead}
+use Rattle.tokens.specs.Scanning.{from, StartsAs, TokenRead}
 use Rattle.tokens.proofs.BytesProperties.{drop_here, head_here, drop_past_the_end, false_true, space_by_kind}
 use Rattle.tokens.proofs.ScanningProperties.{past_the_run}
 use Rattle.tokens.proofs.scan.next_token.Goals as goal

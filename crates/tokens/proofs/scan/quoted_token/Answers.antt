@@ -1,10 +1,10 @@
-use Rattle.std.proofs.Common.{◌≡◌, ℕ, ◌+◌, ◌-◌, ◌<◌, ◌≤◌, false, List, length, take, drop, Err, sym, refl, ap, ◌∙◌, subst, arith}
+use Rattle.std.proofs.Common.{◌≡◌, ℕ, ◌+◌, ◌<◌, List, length, drop, Err, sym, refl, ap, ◌∙◌, subst, arith}
 use Rattle.std.proofs.lemmas.Result.{err_from_is_err_and}
 use Rattle.tokens.specs.declared.kind.Kind.TheVariants.{Quote}
 use Rattle.tokens.specs.declared.scan.TokenFault.{TokenFault}
 use Rattle.tokens.specs.declared.scan.TokenFault.TheVariants as fault
-use Rattle.tokens.specs.Token.{spaced, scan, scan_from, name, got}
-use Rattle.tokens.specs.Scanning.{head_kind, QuoteRead, StartsAs, undouble}
+use Rattle.tokens.specs.Token.{spaced}
+use Rattle.tokens.specs.Scanning.{head_kind, QuoteRead, StartsAs}
 use Rattle.tokens.proofs.ScanningProperties.{scan_by_kind}
 use Rattle.tokens.proofs.scan.quoted_token.Goals as goal
 

@@ -1,8 +1,8 @@
-use Rattle.std.proofs.Common.{◌≡◌, ℕ, ◌+◌, ◌-◌, ◌<◌, ◌≤◌, List, [], ◌∷◌, ◌++◌, length, get_or, take, drop, sym, refl, ap, ◌∙◌, subst, arith}
+use Rattle.std.proofs.Common.{◌≡◌, ◌+◌, ◌-◌, ◌≤◌, [], ◌∷◌, length, get_or, take, drop, sym, refl, ap, ◌∙◌, arith}
 use Rattle.tokens.specs.declared.kind.Kind.{Kind}
 use Rattle.tokens.specs.declared.kind.Kind.TheVariants.{Small, Capital, Digit}
-use Rattle.tokens.specs.Bytes.{word, digit, longest, past}
-use Rattle.tokens.specs.Token.{spaced, scan, name, variable, integer, got}
+use Rattle.tokens.specs.Bytes.{word, digit, past}
+use Rattle.tokens.specs.Token.{spaced, name, variable, integer, got}
 use Rattle.tokens.specs.Scanning.{head_kind, RunKind, small_begins, capital_begins, digit_begins}
 use Rattle.tokens.proofs.ScanningProperties.{scan_by_kind, scan_small, scan_capital, scan_digits, slice_of_run}
 use Rattle.tokens.proofs.scan.run_token.Goals as goal

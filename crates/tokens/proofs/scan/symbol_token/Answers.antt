@@ -1,8 +1,7 @@
-use Rattle.std.proofs.Common.{◌≡◌, ℕ, ◌+◌, ◌-◌, ◌<◌, ◌≤◌, Bool, true, false, cond, ◌&&◌, List, [], ◌∷◌, ◌++◌, length, get_or, take, drop, sym, refl, ap, ◌∙◌, subst, arith}
-use Rattle.tokens.specs.declared.kind.Kind.{Kind}
+use Rattle.std.proofs.Common.{◌≡◌, ℕ, ◌+◌, ◌-◌, ◌<◌, ◌≤◌, true, false, cond, ◌&&◌, List, [], ◌∷◌, ◌++◌, length, get_or, take, drop, sym, refl, ap, ◌∙◌, arith}
 use Rattle.tokens.specs.declared.kind.Kind.TheVariants.{Symbol}
 use Rattle.tokens.specs.Bytes.{symbol, digit, longest, past, same}
-use Rattle.tokens.specs.Token.{spaced, scan, name, neck, integer, got, run, minus_bytes, neck_bytes}
+use Rattle.tokens.specs.Token.{spaced, scan, name, neck, integer, got, run, minus_bytes}
 use Rattle.tokens.specs.Scanning.{head_kind, digit_at}
 use Rattle.tokens.proofs.ScanningProperties.{scan_by_kind, scan_symbols, symbols_before, slice_of_run, slice_of_two}
 use Rattle.tokens.proofs.scan.symbol_token.Goals as goal

@@ -1,6 +1,6 @@
-use Rattle.std.proofs.Common.{◌≡◌, ℕ, zero, suc, ◌+◌, ◌-◌, ◌<◌, ◌≤◌, false, ◌⊎◌, List, [], ◌∷◌, length, get_or, take, drop, Some, sym, refl, ap, ◌∙◌, subst, inl, inr, arith}
+use Rattle.std.proofs.Common.{◌≡◌, ℕ, zero, suc, ◌+◌, ◌-◌, ◌<◌, false, List, [], ◌∷◌, length, get_or, take, drop, Some, sym, refl, ap, ◌∙◌, subst, inl, inr, arith}
 use Rattle.tokens.specs.declared.kind.Kind.{Kind}
-use Rattle.tokens.specs.declared.kind.Kind.TheVariants.{Small, Capital, Digit, Solo, Opening, Closing, Left, Right, Bar, Comma, Stop}
+use Rattle.tokens.specs.declared.kind.Kind.TheVariants.{Solo, Opening, Closing, Left, Right, Bar, Comma, Stop}
 use Rattle.tokens.specs.declared.scan.Token.{Token}
 use Rattle.tokens.specs.declared.scan.Token.TheVariants as code
 use Rattle.tokens.specs.declared.scan.Found.{Found}

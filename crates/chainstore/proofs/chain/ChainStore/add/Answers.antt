@@ -31,16 +31,21 @@ add_cell-requires c =
     let spare = s.spare in
     let small = s.small in
     let few = s.few in
-    let at = c.head_of-head.ensures.0 in
+    let at = c.head_of-head.ensures.value in
     let l = head_less i in
     let b = besides_less (end_of c.args.side) s i in
     let same : besides (end_of c.args.side) (vec_items s.links) c.head_of-head.result
     ≡ besides (end_of c.args.side) (vec_items s.links) (head i)
     = ap (besides (end_of c.args.side) (vec_items s.links)) at in
-    (omega arith, omega arith, omega arith, omega arith)
+    record {
+      head_in_bounds = omega arith;
+      head_in_bounds_2 = omega arith;
+      links_len_bound = omega arith;
+      links_len_bound_2 = omega arith;
+    }
 
-pub invariant-of-self : goal.invariant-of-self
-invariant-of-self c =
+pub invariant_of-self : goal.invariant_of-self
+invariant_of-self c =
     let s = c.args.self.now in
     let r = c.args.rule in
     let at = c.len-start.result in
@@ -51,39 +56,27 @@ invariant-of-self c =
     let h = c.head_of-head.result in
     let ms = vec_items c.add_cell.new.links in
     let start = c.len-start.ensures in
-    let head_is = c.head_of-head.ensures.0 in
+    let head_is = c.head_of-head.ensures.value in
     let links = c.add_cell.ensures.links in
     let ordered = ordered_added s r at side start es more (vec_len c.append.new.nodes) c.append.ensures.len in
     let noted = flags_added s r at side start es more ns c.append.ensures.items h head_is in
     let after = after_added s r at side start es more h head_is ms links in
-    let before = before_added s r at side start es more h head_is ms links in (
-      omega arith,
-      (
-        omega arith,
-        (
-          omega arith,
-          (
-            omega arith,
-            (
-              omega arith,
-              (
-                omega arith,
-                (
-                  omega arith,
-                  (
-                    omega arith,
-                    (
-                      omega arith,
-                      (ordered, (noted, (after, (before, tt)))),
-                    ),
-                  ),
-                ),
-              ),
-            ),
-          ),
-        ),
-      ),
-    )
+    let before = before_added s r at side start es more h head_is ms links in
+    record {
+      few = omega arith;
+      reserved = omega arith;
+      small = omega arith;
+      filled = omega arith;
+      room = omega arith;
+      short = omega arith;
+      cells = omega arith;
+      spare = omega arith;
+      flags = omega arith;
+      ordered = ordered;
+      noted = noted;
+      after = after;
+      before = before;
+    }
 
 pub returns : goal.returns
 returns c =

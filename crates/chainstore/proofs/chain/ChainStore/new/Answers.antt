@@ -6,14 +6,14 @@ use Rattle.chainstore.proofs.LinkedProperties.{After, Before, linked_alone, link
 use Rattle.chainstore.proofs.ViewsProperties.{Noted, noted_fresh}
 use Rattle.chainstore.proofs.chain.ChainStore.new.Goals as goal
 
-pub invariant-of-result : goal.invariant-of-result
-invariant-of-result c =
+pub invariant_of-result : goal.invariant_of-result
+invariant_of-result c =
     let ns = c.in_ok-nodes.ensures in
     let es = c.in_ok-entries.ensures in
-    let cap = c.in_ok-links.ensures.made in
+    let cap = c.in_ok-links.ensures.capacity in
     let ls = vec_items c.add_heads.new.links in
     let all : vec_items c.in_ok-known.known ≡ replicate 4608 false =
-    c.in_ok-known.ensures.items-if-clones-equal (λ y e. e) in
+    c.in_ok-known.ensures.items_if_clones_equal (λ y e. e) in
     let linked = linked_alone ls c.add_heads.ensures.alone in
     let flags = c.in_ok-known.ensures.len in
     let ordered : laid 0 (vec_items c.in_ok-entries.entries) (vec_len c.in_ok-nodes.nodes) ≡ true
@@ -24,28 +24,19 @@ invariant-of-result c =
     = noted_fresh (vec_items c.in_ok-known.known) (vec_items c.in_ok-nodes.nodes)
     (vec_items c.in_ok-entries.entries) all es.items in
     let after = subst (λ xs. After xs ls) (sym es.items) (linked_after [] ls linked) in
-    let before = subst (λ xs. Before xs ls) (sym es.items) (linked_before [] ls linked) in (
-      omega arith,
-      (
-        omega arith,
-        (
-          omega arith,
-          (
-            omega arith,
-            (
-              omega arith,
-              (
-                omega arith,
-                (
-                  omega arith,
-                  (
-                    omega arith,
-                    (flags, (ordered, (noted, (after, (before, tt))))),
-                  ),
-                ),
-              ),
-            ),
-          ),
-        ),
-      ),
-    )
+    let before = subst (λ xs. Before xs ls) (sym es.items) (linked_before [] ls linked) in
+    record {
+      few = omega arith;
+      reserved = omega arith;
+      small = omega arith;
+      filled = omega arith;
+      room = omega arith;
+      short = omega arith;
+      cells = omega arith;
+      spare = omega arith;
+      flags = flags;
+      ordered = ordered;
+      noted = noted;
+      after = after;
+      before = before;
+    }

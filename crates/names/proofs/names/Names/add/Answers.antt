@@ -9,8 +9,8 @@ append-requires c = omega (arith, total_list c.args.self.now, c.requires.room, c
 pub push_reserved-requires : goal.push_reserved-requires
 push_reserved-requires c = omega (arith, length_list c.args.self.now, c.requires.few, c.args.self.now.room)
 
-pub invariant-of-self : goal.invariant-of-self
-invariant-of-self c =
+pub invariant_of-self : goal.invariant_of-self
+invariant_of-self c =
     let t = c.args.self.now in
     let name = c.args.name.now in
     let n = total_list t in
@@ -28,7 +28,16 @@ invariant-of-self c =
     let few : vec_len bounds ≤ 513 = omega (arith, c.push_reserved.ensures.len, c.requires.few) in
     let room : 513 ≤ vec_capacity bounds = omega (arith, c.push_reserved.ensures.capacity, t.room) in
     let space : 8192 ≤ vec_capacity bytes = omega (arith, c.append.ensures.capacity, t.space) in
-    (few, (omega (arith, c.requires.room), (room, (space, (a, (s.0, (s.1, (s.2, tt))))))))
+    record {
+      few = few;
+      small = omega (arith, c.requires.room);
+      room = room;
+      space = space;
+      cut = a;
+      brief = s.0;
+      apart = s.1;
+      first = s.2;
+    }
 
 pub returns : goal.returns
 returns c =

@@ -8,8 +8,8 @@ use Rattle.names.proofs.names.Names.back_to.Goals as goal
 pub index-requires : goal.index-requires
 index-requires c = omega (arith, length_list c.args.self.now, c.len.ensures.value)
 
-pub invariant-of-self : goal.invariant-of-self
-invariant-of-self c =
+pub invariant_of-self : goal.invariant_of-self
+invariant_of-self c =
     let t = c.args.self.now in
     let keep = c.max-keep.result in
     let end = c.index.result.now in
@@ -31,7 +31,16 @@ invariant-of-self c =
     let room : 513 ≤ vec_capacity c.truncate-then-keep-len.new.self =
     omega (arith, c.truncate-then-keep-len.ensures.capacity, t.room) in
     let space : 8192 ≤ vec_capacity c.truncate.new.self = omega (arith, c.truncate.ensures.capacity, t.space) in
-    (few, (omega (arith, t.small), (room, (space, (a, (s.0, (s.1, (s.2, tt))))))))
+    record {
+      few = few;
+      small = omega (arith, t.small);
+      room = room;
+      space = space;
+      cut = a;
+      brief = s.0;
+      apart = s.1;
+      first = s.2;
+    }
 
 pub returns-then-keep-len : goal.returns-then-keep-len
 returns-then-keep-len c =

@@ -5,8 +5,8 @@ use Rattle.names.proofs.TableProperties.{length_names_of}
 use Rattle.names.proofs.KnownProperties.{stored_le, known_brief, stored_more, stored_ascends, stored_all, sound_known}
 use Rattle.names.proofs.names.Names.new.Goals as goal
 
-pub overflow-cast-len : goal.overflow-cast-len
-overflow-cast-len c =
+pub overflow_cast-len : goal.overflow_cast-len
+overflow_cast-len c =
     let bytes = vec_items c.loop-i.bytes in
     let bounds = vec_items c.loop-i.bounds in
     let a : ascends (length bytes) bounds ≡ true =
@@ -36,8 +36,8 @@ loop-i-preserved c =
     let t = stored_ascends bytes bounds name a in
     (cc, cc, omega (arith, u.capacity, c.loop-i.invariant.2), omega (arith, v.capacity, c.loop-i.invariant.3))
 
-pub invariant-of-result : goal.invariant-of-result
-invariant-of-result c =
+pub invariant_of-result : goal.invariant_of-result
+invariant_of-result c =
     let bytes = vec_items c.loop-i.bytes in
     let bounds = vec_items c.loop-i.bounds in
     let a : ascends (length bytes) bounds ≡ true =
@@ -49,7 +49,16 @@ invariant-of-result c =
     let s = sound_known (names_of bytes bounds) e in
     let few : vec_len c.loop-i.bounds ≤ 513 = omega (arith, c.loop-i.bounds.ok.0) in
     let small : vec_len c.loop-i.bytes ≤ 8192 = omega (arith, c.loop-i.bytes.ok.0) in
-    (few, (small, (c.loop-i.invariant.3, (c.loop-i.invariant.2, (c.loop-i.invariant.1, (s.0, (s.1, (s.2, tt))))))))
+    record {
+      few = few;
+      small = small;
+      room = c.loop-i.invariant.3;
+      space = c.loop-i.invariant.2;
+      cut = c.loop-i.invariant.1;
+      brief = s.0;
+      apart = s.1;
+      first = s.2;
+    }
 
 pub returns : goal.returns
 returns c =

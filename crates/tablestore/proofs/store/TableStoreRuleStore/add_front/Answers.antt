@@ -7,8 +7,8 @@ use Rattle.tablestore.proofs.RowsProperties.{live_placed}
 use Rattle.tablestore.proofs.ViewsProperties.{when_true, placed_live, added}
 use Rattle.tablestore.proofs.store.TableStoreRuleStore.add_front.Goals as goal
 
-pub invariant-of-self : goal.invariant-of-self
-invariant-of-self c =
+pub invariant_of-self : goal.invariant_of-self
+invariant_of-self c =
     let s = c.args.self.now in
     let t = c.keep-label.new.self in
     let k = c.keep-label.ensures in
@@ -31,13 +31,16 @@ invariant-of-self c =
     c.insert.ensures.len ok in
     let cap = c.insert.ensures.capacity in
     let two = live_placed front (vec_len s.entries) (vec_len t.entries) c.keep-label.result (live_of s)
-    (vec_items c.insert.new.self) s.used s.once k.label k.next items in (
-      t.sizes,
-      (
-        (held.0, held.1, omega arith),
-        ((few.0, few.1, omega arith), (t.tiled, (t.within, (two.0, (two.1, tt))))),
-      ),
-    )
+    (vec_items c.insert.new.self) s.used s.once k.label k.next items in
+    record {
+      sizes = t.sizes;
+      held = (held.0, held.1, omega arith);
+      few = (few.0, few.1, omega arith);
+      tiled = t.tiled;
+      within = t.within;
+      used = two.0;
+      once = two.1;
+    }
 
 pub returns : goal.returns
 returns c =

@@ -9,8 +9,8 @@ use Rattle.tablestore.proofs.RowsProperties.{removed_place, without_past, below_
 use Rattle.tablestore.proofs.ViewsProperties.{erased}
 use Rattle.tablestore.proofs.store.TableStoreRuleStore.erase.Goals as goal
 
-pub invariant-of-self : goal.invariant-of-self
-invariant-of-self c =
+pub invariant_of-self : goal.invariant_of-self
+invariant_of-self c =
     let s = c.args.self.now in
     let held = s.held in
     let few = s.few in
@@ -23,13 +23,16 @@ invariant-of-self c =
     = ap (below (vec_len s.entries)) items
     ∙ below_without (vec_len s.entries) c.args.label (live_of s) s.used in
     let once : distinct (vec_items c.remove.new.self) ≡ true
-    = ap distinct items ∙ distinct_without c.args.label (live_of s) s.once in (
-      s.sizes,
-      (
-        (held.0, held.1, omega arith),
-        ((few.0, few.1, omega arith), (s.tiled, (s.within, (used, (once, tt))))),
-      ),
-    )
+    = ap distinct items ∙ distinct_without c.args.label (live_of s) s.once in
+    record {
+      sizes = s.sizes;
+      held = (held.0, held.1, omega arith);
+      few = (few.0, few.1, omega arith);
+      tiled = s.tiled;
+      within = s.within;
+      used = used;
+      once = once;
+    }
 
 pub returns-then-at-len : goal.returns-then-at-len
 returns-then-at-len c =

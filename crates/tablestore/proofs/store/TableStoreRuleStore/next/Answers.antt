@@ -5,8 +5,8 @@ use Rattle.tablestore.proofs.RowsProperties.{place_le}
 use Rattle.tablestore.proofs.ViewsProperties.{lawful, next_first, next_behind, next_other}
 use Rattle.tablestore.proofs.store.TableStoreRuleStore.next.Goals as goal
 
-pub overflow-add-place : goal.overflow-add-place
-overflow-add-place c =
+pub overflow_add-place : goal.overflow_add-place
+overflow_add-place c =
     let s = c.args.self.now in
     let p = c.place.ensures in
     let le = place_le c.in-Some.label (live_of s) in

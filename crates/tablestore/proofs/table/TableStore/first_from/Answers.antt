@@ -1,5 +1,5 @@
 -- A label of the indicator, one of another, and the end.
-use Rattle.std.proofs.Common.{◌≡◌, ◌<◌, ◌≤◌, length, sym, ◌∙◌, arith}
+use Rattle.std.proofs.Common.{◌<◌, ◌≤◌, length, sym, ◌∙◌, arith}
 use Rattle.tablestore.specs.Views.{rules_of, live_of}
 use Rattle.tablestore.proofs.RowsProperties.{own_here, own_on, own_past}
 use Rattle.tablestore.proofs.table.TableStore.first_from.Goals as goal

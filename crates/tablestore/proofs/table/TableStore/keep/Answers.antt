@@ -15,8 +15,8 @@ push_reserved-requires c =
     let held = s.held in
     omega arith
 
-pub invariant-of-self : goal.invariant-of-self
-invariant-of-self c =
+pub invariant_of-self : goal.invariant_of-self
+invariant_of-self c =
     let s = c.args.self.now in
     let v = value_of c.args.rule in
     let e : Entry = record {
@@ -48,13 +48,16 @@ invariant-of-self c =
     ∙ inside_push (vec_len s.nodes) (vec_len c.extend_from_slice.new.self) (vec_items s.entries) e s.within
     (omega arith) (omega arith) in
     let used = below_more (vec_len s.entries) (vec_len c.push_reserved.new.self) (vec_items s.live) s.used
-    (omega arith) in (
-      s.sizes,
-      (
-        (omega arith, omega arith, held.2),
-        ((omega arith, omega arith, omega arith), (all, (within, (used, (s.once, tt))))),
-      ),
-    )
+    (omega arith) in
+    record {
+      sizes = s.sizes;
+      held = (omega arith, omega arith, held.2);
+      few = (omega arith, omega arith, omega arith);
+      tiled = all;
+      within = within;
+      used = used;
+      once = s.once;
+    }
 
 pub returns : goal.returns
 returns c =

@@ -4,8 +4,8 @@ use Rattle.terms.specs.Rows.{fitting, fitting_from}
 use Rattle.terms.proofs.FittingProperties.{fitting_from_push}
 use Rattle.terms.proofs.row.Row.push.Goals as goal
 
-pub invariant-of-self : goal.invariant-of-self
-invariant-of-self c =
+pub invariant_of-self : goal.invariant_of-self
+invariant_of-self c =
     let h = c.args.self.now in
     let x = c.args.node in
     let xs = vec_items h.nodes in
@@ -13,4 +13,4 @@ invariant-of-self c =
     let fit : fitting (length xs) x ≡ true = ap (λ n. fitting n x) at ∙ sym c.if-fits.ensures in
     let all : fitting_from 0 (vec_items c.push_reserved.new.self) ≡ true
     = ap (fitting_from 0) c.push_reserved.ensures.items ∙ fitting_from_push xs x h.before fit in
-    (search rules, (search rules, (search rules, (all, tt))))
+    record { few = search rules; room = search rules; small = search rules; before = all }

@@ -1,10 +1,9 @@
 -- One step more, or a limit is passed for good.
-use Rattle.std.proofs.Common.{◌≡◌, ℕ, ◌+◌, List, [], length, get_or, take, Ok, Err, vec_items, sym, refl, ap, ◌∙◌, subst, arith}
+use Rattle.std.proofs.Common.{◌+◌, get_or, take, Ok, vec_items, refl, ap}
 use Rattle.std.proofs.lemmas.List.{take_all}
 use Rattle.names.specs.View.{list}
 use Rattle.names.proofs.InternedProperties.{kept_same}
 use Rattle.terms.specs.RowViews.{row_nodes}
-use Rattle.reader.specs.declared.op.Op.{Op}
 use Rattle.reader.specs.declared.op.Op.TheVariants as op
 use Rattle.reader.specs.Ops.{run, apply}
 use Rattle.text.proofs.EnteredProperties.{extends_trans}

@@ -1,5 +1,5 @@
 -- The terms of the steps so far are built.
-use Rattle.std.proofs.Common.{◌≡◌, take}
+use Rattle.std.proofs.Common.{take}
 use Rattle.names.specs.Listed.{Extends}
 use Rattle.names.specs.View.{list}
 use Rattle.reader.specs.Ops.{run}

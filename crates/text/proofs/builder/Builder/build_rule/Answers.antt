@@ -1,5 +1,5 @@
 -- A fact's body is one step more.
-use Rattle.std.proofs.Common.{◌≡◌, ℕ, List, [], ◌∷◌, Ok, vec_items, sym, refl, ap, ◌∙◌, subst, lit<}
+use Rattle.std.proofs.Common.{[], ◌∷◌, vec_items, sym, ap, ◌∙◌, subst, lit<}
 use Rattle.names.specs.Interned.{list_after}
 use Rattle.names.specs.Listed.{name_at}
 use Rattle.names.specs.View.{list}

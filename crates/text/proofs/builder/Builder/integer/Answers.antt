@@ -1,5 +1,5 @@
 -- An integer's node.
-use Rattle.std.proofs.Common.{◌≡◌, ◌∷◌, ℤ, vec_items, sym, refl, ap, ◌∙◌, w32, SFits, to_z, of_z, rules}
+use Rattle.std.proofs.Common.{◌≡◌, ◌∷◌, vec_items, sym, refl, ap, ◌∙◌, w32, SFits, to_z, of_z, rules}
 use Rattle.std.proofs.lemmas.Int.{to_z-of_z}
 use Rattle.grammar.specs.Written.{int}
 use Rattle.terms.specs.declared.node.Node.TheVariants.{Int}

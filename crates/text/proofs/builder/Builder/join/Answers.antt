@@ -1,5 +1,5 @@
 -- Two terms on top, or nothing happens.
-use Rattle.std.proofs.Common.{◌≡◌, ◌<◌, ◌≤◌, length, Some, Ok, vec_items, vec_len, sym, refl, ap, ◌∙◌, arith}
+use Rattle.std.proofs.Common.{◌≡◌, ◌<◌, ◌≤◌, length, Ok, vec_items, vec_len, sym, refl, ap, ◌∙◌, arith}
 use Rattle.names.specs.Interned.{list_after}
 use Rattle.names.specs.Listed.{name_at}
 use Rattle.terms.specs.RowViews.{row_nodes}

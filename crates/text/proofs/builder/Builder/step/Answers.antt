@@ -1,16 +1,16 @@
 -- Each step builds what it says.
-use Rattle.std.proofs.Common.{◌≡◌, ℕ, ◌<◌, false, List, [], ◌∷◌, length, get_or, take, is_ok, vec_items, sym, refl, ap, ◌∙◌, lit<}
+use Rattle.std.proofs.Common.{false, ◌∷◌, length, take, is_ok, vec_items, sym, refl, ap, ◌∙◌, lit<}
 use Rattle.std.proofs.lemmas.Bool.{leb-false}
-use Rattle.names.specs.Interned.{interned, list_after}
-use Rattle.names.specs.Listed.{Extends, name_at}
+use Rattle.names.specs.Interned.{list_after}
+use Rattle.names.specs.Listed.{name_at}
 use Rattle.names.specs.View.{list}
 use Rattle.names.proofs.InternedProperties.{kept_same}
 use Rattle.names.proofs.ViewProperties.{lawful_list}
-use Rattle.terms.specs.Known.{known, empty_name, dot_name, comma_name}
+use Rattle.terms.specs.Known.{empty_name, dot_name, comma_name}
 use Rattle.terms.specs.RowViews.{row_nodes}
-use Rattle.grammar.specs.Written.{var, int, empty_list}
+use Rattle.grammar.specs.Written.{var, int}
 use Rattle.tokens.specs.Scanning.{undouble}
-use Rattle.reader.specs.Ops.{Stack, part, take_many, named, joined, apply}
+use Rattle.reader.specs.Ops.{part, take_many, named, joined, apply}
 use Rattle.text.specs.Limits.{stack_fits}
 use Rattle.text.proofs.EnteredProperties.{known_in, extends_same}
 use Rattle.text.proofs.BuiltProperties.{name_unfit, long_unfit, ends_as, ends_err}
@@ -43,8 +43,8 @@ returns-in-Integer c =
           (c.integer.ensures text first st ns b);
     }
 
-pub returns-in_err-name : goal.returns-in_err-name
-returns-in_err-name c =
+pub returns-in_err-name-in-Name : goal.returns-in_err-name-in-Name
+returns-in_err-name-in-Name c =
     let text = c.args.text.now in
     let ns = list c.args.names.now in
     let h = c.args.self.now in
@@ -57,11 +57,11 @@ returns-in_err-name c =
           c.from_residual.ensures.0
           (sym (ap (λ s. stack_fits first s) (ap (λ g. named g (take_many n st)) c.part-in-Name.ensures
           ∙ ap (λ o. apply text o st) (sym c.in-Name.is)))
-          ∙ name_unfit text first st ns (row_nodes h.row) (vec_items h.stack) (vec_items h.variables) b f n c.in_err-name.field-0.0 c.in_err-name.ensures.value);
+          ∙ name_unfit text first st ns (row_nodes h.row) (vec_items h.stack) (vec_items h.variables) b f n c.in_err-name-in-Name.field-0.0 c.in_err-name-in-Name.ensures.value);
     }
 
-pub returns-in_ok-name : goal.returns-in_ok-name
-returns-in_ok-name c =
+pub returns-in_ok-name-in-Name : goal.returns-in_ok-name-in-Name
+returns-in_ok-name-in-Name c =
     let text = c.args.text.now in
     let ns = list c.args.names.now in
     let ns' = list c.intern.new.self in
@@ -69,7 +69,7 @@ returns-in_ok-name c =
     let f = c.part-in-Name.result.now in
     let n = c.in-Name.arity in
     let e = c.intern.ensures.after in
-    let v = c.in_ok-name.ensures in
+    let v = c.in_ok-name-in-Name.ensures in
     record {
       kept = c.intern.ensures.kept;
       built = λ first st b.
@@ -78,7 +78,7 @@ returns-in_ok-name c =
           (ap (λ g. named g (take_many n st)) c.part-in-Name.ensures ∙ ap (λ o. apply text o st) (sym c.in-Name.is))
           (sym e)
           (c.compound.ensures text first st ns f b (ap (take (length ns)) (sym e) ∙ v.kept)
-          (ap is_ok (sym v.value)) (ap (λ l. name_at l c.in_ok-name.name) (sym e) ∙ v.holds));
+          (ap is_ok (sym v.value)) (ap (λ l. name_at l c.in_ok-name-in-Name.name) (sym e) ∙ v.holds));
     }
 
 pub returns-then-not-unquote : goal.returns-then-not-unquote
@@ -96,8 +96,8 @@ returns-then-not-unquote c =
           ∙ long_unfit text first st ns (row_nodes h.row) (vec_items h.stack) (vec_items h.variables) b f n (leb-false (length f) 64 (sym c.if-not-unquote.ensures.short));
     }
 
-pub returns-in_err-name-2 : goal.returns-in_err-name-2
-returns-in_err-name-2 c =
+pub returns-in_err-name-in-Quoted : goal.returns-in_err-name-in-Quoted
+returns-in_err-name-in-Quoted c =
     let text = c.args.text.now in
     let ns = list c.args.names.now in
     let h = c.args.self.now in
@@ -108,15 +108,15 @@ returns-in_err-name-2 c =
       kept = c.intern-in-Quoted.ensures.kept;
       built = λ first st b.
           ends_err text first (apply text c.args.op st) (list c.intern-in-Quoted.new.self) (row_nodes h.row) (vec_items h.stack) (vec_items h.variables)
-          c.from_residual-in_err-name-2.result c.from_residual-in_err-name-2.ensures.0
+          c.from_residual-in_err-name-in-Quoted.result c.from_residual-in_err-name-in-Quoted.ensures.0
           (sym (ap (λ s. stack_fits first s) (ap (λ g. named g (take_many n st)) is
           ∙ ap (λ g. named (undouble false g) (take_many n st)) c.part-in-Quoted.ensures
           ∙ ap (λ o. apply text o st) (sym c.in-Quoted.is)))
-          ∙ name_unfit text first st ns (row_nodes h.row) (vec_items h.stack) (vec_items h.variables) b f n c.in_err-name-2.field-0.0 c.in_err-name-2.ensures.value);
+          ∙ name_unfit text first st ns (row_nodes h.row) (vec_items h.stack) (vec_items h.variables) b f n c.in_err-name-in-Quoted.field-0.0 c.in_err-name-in-Quoted.ensures.value);
     }
 
-pub returns-in_ok-name-2 : goal.returns-in_ok-name-2
-returns-in_ok-name-2 c =
+pub returns-in_ok-name-in-Quoted : goal.returns-in_ok-name-in-Quoted
+returns-in_ok-name-in-Quoted c =
     let text = c.args.text.now in
     let ns = list c.args.names.now in
     let ns' = list c.intern-in-Quoted.new.self in
@@ -125,7 +125,7 @@ returns-in_ok-name-2 c =
     let is = c.as_slice.ensures.value ∙ c.if-not-unquote.ensures.items tt in
     let n = c.in-Quoted.arity in
     let e = c.intern-in-Quoted.ensures.after in
-    let v = c.in_ok-name-2.ensures in
+    let v = c.in_ok-name-in-Quoted.ensures in
     record {
       kept = c.intern-in-Quoted.ensures.kept;
       built = λ first st b.
@@ -136,7 +136,7 @@ returns-in_ok-name-2 c =
           ∙ ap (λ o. apply text o st) (sym c.in-Quoted.is))
           (sym e)
           (c.compound-in-Quoted.ensures text first st ns f b (ap (take (length ns)) (sym e) ∙ v.kept)
-          (ap is_ok (sym v.value)) (ap (λ l. name_at l c.in_ok-name-2.name) (sym e) ∙ v.holds));
+          (ap is_ok (sym v.value)) (ap (λ l. name_at l c.in_ok-name-in-Quoted.name) (sym e) ∙ v.holds));
     }
 
 pub returns-in-EmptyList : goal.returns-in-EmptyList

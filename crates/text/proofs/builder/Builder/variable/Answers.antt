@@ -1,5 +1,5 @@
 -- A variable's node.
-use Rattle.std.proofs.Common.{◌≡◌, ◌≤◌, ◌∷◌, length, vec_items, vec_len, sym, refl, ap, ◌∙◌, arith}
+use Rattle.std.proofs.Common.{◌≡◌, ◌≤◌, ◌∷◌, length, vec_items, vec_len, sym, arith}
 use Rattle.grammar.specs.Written.{var}
 use Rattle.terms.specs.RowViews.{row_nodes}
 use Rattle.reader.specs.Ops.{part}
@@ -18,7 +18,7 @@ returns c first st ns b =
     let spans = vec_items c.number.new.variables in
     let n : vec_len c.number.new.variables ≡ length spans = c.number.new.variables.ok.0 in
     let all = length_cuts text spans in
-    let few : length (cuts text spans) ≤ 32 = (let l = v.still-few in omega arith) in
+    let few : length (cuts text spans) ≤ 32 = (let l = v.still_few in omega arith) in
     spans_as text first (var a ∷ st) ns (row_nodes h'.row) (vec_items h'.stack) spans (vec_items h'.variables)
     c.push.result (sym c.push.ensures.1)
     (built_var text first st ns (row_nodes h.row) (vec_items h.stack) (vec_items h.variables) b (row_nodes h'.row)

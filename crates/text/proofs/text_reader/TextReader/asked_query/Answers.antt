@@ -1,5 +1,5 @@
 -- The steps build the query, and it is copied.
-use Rattle.std.proofs.Common.{◌≡◌, [], ◌∷◌, Ok, vec_items, sym, refl, ap, ◌∙◌, subst}
+use Rattle.std.proofs.Common.{[], ◌∷◌, Ok, vec_items, sym, refl, ap, ◌∙◌}
 use Rattle.names.specs.View.{list}
 use Rattle.names.proofs.ViewProperties.{lawful_list}
 use Rattle.terms.specs.RowViews.{row_nodes}

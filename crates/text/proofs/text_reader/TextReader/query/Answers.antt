@@ -1,5 +1,5 @@
 -- The query that was read is copied, or the names go back.
-use Rattle.std.proofs.Common.{◌≡◌, vec_items, sym, refl, ap, ◌∙◌}
+use Rattle.std.proofs.Common.{◌∙◌}
 use Rattle.names.specs.View.{list}
 use Rattle.terms.specs.RowViews.{row_nodes}
 use Rattle.text.specs.Readers.{reader_spans}

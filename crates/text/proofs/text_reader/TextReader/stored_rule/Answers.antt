@@ -1,5 +1,5 @@
 -- The steps build the rule, and it is copied.
-use Rattle.std.proofs.Common.{◌≡◌, [], ◌∷◌, Ok, Err, vec_items, Result, sym, refl, ap, ◌∙◌, subst}
+use Rattle.std.proofs.Common.{Err, vec_items, Result, sym, refl, ap, ◌∙◌, subst}
 use Rattle.std.proofs.lemmas.Result.{err_from_is_err_and}
 use Rattle.names.specs.View.{list}
 use Rattle.names.proofs.ViewProperties.{lawful_list}

@@ -25,8 +25,8 @@ arguments-args-requires t c =
     (App c.in-App.name c.in-App.arity c.in-App.args) c.nodes.ensures c.in-App.is in
     app_arity (row_nodes row) (row_nodes_fitting row) c.args.at c.requires _ _ _ e
 
-pub returns-in_err-opening : goal.returns-in_err-opening
-returns-in_err-opening t c =
+pub returns-in_err-opening-in-App : goal.returns-in_err-opening-in-App
+returns-in_err-opening-in-App t c =
     let row = c.args.row.now in
     let e = read_as (row_nodes row) c.nodes.result.now c.args.at
     (App c.in-App.name c.in-App.arity c.in-App.args) c.nodes.ensures c.in-App.is in
@@ -42,7 +42,7 @@ returns-in_err-opening t c =
     (opening_short (opening_text c.args.spot k c.name_of-name.result.now)
     (part_text k seen (meanings ns (row_nodes row)) js (length js)) (closing_text c.args.spot k)
     (text_at (spot_of c.args.spot) (numbered seen (meaning ns (row_nodes row) c.args.at))) whole)
-    c.in_err-opening.ensures
+    c.in_err-opening-in-App.ensures
 
 pub loop-k-init : goal.loop-k-init
 loop-k-init t c = puts_none c.opening.new.self tt
@@ -58,8 +58,8 @@ node-requires t c =
     let inside = c.requires in
     (omega arith, omega arith)
 
-pub returns-in_err-node : goal.returns-in_err-node
-returns-in_err-node t c =
+pub returns-in_err-node-in-App : goal.returns-in_err-node-in-App
+returns-in_err-node-in-App t c =
     let row = c.args.row.now in
     let e = read_as (row_nodes row) c.nodes.result.now c.args.at
     (App c.in-App.name c.in-App.arity c.in-App.args) c.nodes.ensures c.in-App.is in
@@ -71,20 +71,20 @@ returns-in_err-node t c =
     let k = c.form_of-form.result in
     let l : c.loop-k.k < length js = c.loop-k-test.true in
     let n : c.loop-k.k + 1 ≤ length js = omega arith in
-    let first = c.in_ok-opening.ensures in
+    let first = c.in_ok-opening-in-App.ensures in
     let whole = node_text c.args.spot k ns (row_nodes row) c.args.at c.in-App.name c.in-App.arity
     c.in-App.args js c.name_of-name.result.now seen old (row_nodes_fitting row) c.requires e
     c.arguments-args.ensures c.name_of-name.ensures c.form_of-form.ensures first.put.told.1 in
     puts_longer (text_at (spot_of c.args.spot) (numbered old (meaning ns (row_nodes row) c.args.at)))
-    (firsts old (meaning ns (row_nodes row) c.args.at)) c.from_residual-in_err-node.result
-    c.from_residual-in_err-node.ensures.0
+    (firsts old (meaning ns (row_nodes row) c.args.at)) c.from_residual-in_err-node-in-App.result
+    c.from_residual-in_err-node-in-App.ensures.0
     (part_short (opening_text c.args.spot k c.name_of-name.result.now) (part_text k seen ts js (length js))
     (closing_text c.args.spot k) (part_text k seen ts js (c.loop-k.k + 1))
     (text_at (spot_of c.args.spot) (numbered old (meaning ns (row_nodes row) c.args.at))) whole
     (part_text_longer k seen ts js (c.loop-k.k + 1) (length js) n))
     (puts_then first
     (argument_next k seen ts js c.loop-k.k (get_or js c.loop-k.k 0) c.argument_spot.result l refl
-    c.argument_spot.ensures c.loop-k.invariant c.in_err-node.ensures))
+    c.argument_spot.ensures c.loop-k.invariant c.in_err-node-in-App.ensures))
 
 pub loop-k-preserved : goal.loop-k-preserved
 loop-k-preserved t c =
@@ -92,7 +92,7 @@ loop-k-preserved t c =
     argument_next c.form_of-form.result (line_seen c.opening.new.self)
     (meanings (list c.args.names.now) (row_nodes c.args.row.now)) js c.loop-k.k
     (get_or js c.loop-k.k 0) c.argument_spot.result c.loop-k-test.true refl c.argument_spot.ensures
-    c.loop-k.invariant c.in_ok-node.ensures
+    c.loop-k.invariant c.in_ok-node-in-App.ensures
 
 pub returns-in-Var : goal.returns-in-Var
 returns-in-Var t c =
@@ -131,7 +131,7 @@ returns-after-loop-k t c =
     let ts = meanings ns (row_nodes row) in
     let k = c.form_of-form.result in
     let all : c.loop-k.k ≡ length js = omega arith in
-    let first = c.in_ok-opening.ensures in
+    let first = c.in_ok-opening-in-App.ensures in
     let same = first.put.told.1 in
     puts_same
     (node_text c.args.spot k ns (row_nodes row) c.args.at c.in-App.name c.in-App.arity

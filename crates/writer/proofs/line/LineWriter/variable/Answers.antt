@@ -25,8 +25,8 @@ push_reserved-requires c =
     let room : vec_len b.seen < vec_len b.bytes = puts_room 95 done in
     omega (arith, b.few, b.space)
 
-pub invariant-of-self : goal.invariant-of-self
-invariant-of-self c =
+pub invariant_of-self : goal.invariant_of-self
+invariant_of-self c =
     let b = c.number.new.self in
     let done = puts_next c.in_ok-byte.ensures c.in_ok-number.ensures in
     let room : vec_len b.seen < vec_len b.bytes = puts_room 95 done in
@@ -34,7 +34,7 @@ invariant-of-self c =
     omega (arith, c.push_reserved.ensures.len) in
     let space : b.limit ≤ vec_capacity c.push_reserved.new.self =
     omega (arith, c.push_reserved.ensures.capacity, b.space) in
-    (b.few, (b.room, (b.small, (fewer, (space, tt)))))
+    record { few = b.few; room = b.room; small = b.small; fewer = fewer; space = space }
 
 pub returns-then-place-len : goal.returns-then-place-len
 returns-then-place-len c =

@@ -33,8 +33,7 @@ returns-then-label-len c =
       row = λ f a. row_without es l f a (out f a);
       known = λ f a. refl;
       labels = refl;
-      space =
-          refl;
+      space = refl;
     }
 
 pub bridge-requires : goal.bridge-requires
@@ -52,17 +51,17 @@ bridge-requires c =
     c.index-link.ensures no_link in
     let p = ap (λ x. x.before) link in
     let q = ap (λ x. x.after) link in
-    (omega arith, omega arith)
+    record { before_in_bounds = omega arith; after_in_bounds = omega arith }
 
-pub invariant-of-self : goal.invariant-of-self
-invariant-of-self c =
+pub invariant_of-self : goal.invariant_of-self
+invariant_of-self c =
     let s = c.args.self.now in
     let es = vec_items s.entries in
     let ls = vec_items s.links in
     let ms = vec_items c.bridge.new.links in
     let l = c.args.label in
-    let d = c.index-mut.result.now in
-    let is = c.index-mut.ensures.value in
+    let d = c.index_mut.result.now in
+    let is = c.index_mut.ensures.value in
     let k = s.entries.ok.0 in
     let m = s.links.ok.0 in
     let cells = s.cells in
@@ -76,41 +75,29 @@ invariant-of-self c =
     let ordered = ordered_erased s l d less is in
     let noted = flags_erased s l d less is in
     let after = after_erased s l d less is live ms new in
-    let before = before_erased s l d less is live ms new in (
-      omega arith,
-      (
-        omega arith,
-        (
-          omega arith,
-          (
-            omega arith,
-            (
-              omega arith,
-              (
-                omega arith,
-                (
-                  omega arith,
-                  (
-                    omega arith,
-                    (
-                      omega arith,
-                      (ordered, (noted, (after, (before, tt)))),
-                    ),
-                  ),
-                ),
-              ),
-            ),
-          ),
-        ),
-      ),
-    )
+    let before = before_erased s l d less is live ms new in
+    record {
+      few = omega arith;
+      reserved = omega arith;
+      small = omega arith;
+      filled = omega arith;
+      room = omega arith;
+      short = omega arith;
+      cells = omega arith;
+      spare = omega arith;
+      flags = omega arith;
+      ordered = ordered;
+      noted = noted;
+      after = after;
+      before = before;
+    }
 
 pub returns : goal.returns
 returns c =
     let s = c.args.self.now in
     let l = c.args.label in
-    let d = c.index-mut.result.now in
-    let is = c.index-mut.ensures.value in
+    let d = c.index_mut.result.now in
+    let is = c.index_mut.ensures.value in
     record {
       rules = values_erased s l d (omega arith) is;
       row = λ f a. row_of_erased (vec_items s.entries) l (erased d) f a (omega arith) refl;

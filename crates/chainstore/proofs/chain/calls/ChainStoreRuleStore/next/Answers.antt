@@ -7,8 +7,8 @@ use Rattle.chainstore.proofs.NextProperties.{behind_absent}
 use Rattle.chainstore.proofs.ViewsProperties.{next_label, store_lawful}
 use Rattle.chainstore.proofs.chain.calls.ChainStoreRuleStore.next.Goals as goal
 
-pub overflow-add-label : goal.overflow-add-label
-overflow-add-label c =
+pub overflow_add-label : goal.overflow_add-label
+overflow_add-label c =
     let s = c.args.self.now in
     let l = cell_less (vec_items s.entries) c.args.indicator (Some c.in-Some.label)
     (sym c.is_live.ensures ∙ c.if-is_live.true) in
@@ -32,7 +32,7 @@ returns-in-None c =
     let s = c.args.self.now in
     let i = c.args.indicator in
     record {
-      value = c.label_after.ensures ∙ ap (λ n. label_of (after_at (vec_items s.links) n)) c.head_of.ensures.0
+      value = c.label_after.ensures ∙ ap (λ n. label_of (after_at (vec_items s.links) n)) c.head_of.ensures.value
           ∙ next_label s i None refl ∙ ap (next_in (row (vec_items s.entries) i)) (sym c.in-None.is);
       lawful = store_lawful s;
     }
