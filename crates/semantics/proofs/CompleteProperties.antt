@@ -1,29 +1,14 @@
 -- Exactly the leaves and the end, from what each height says.
-use Rattle.std.proofs.Common.{◌≡◌, ℕ, zero, suc, ◌+◌, ◌*◌, ◌≤◌, ◌↔◌, List, [], ◌∷◌, ◌++◌, sym, refl, ap, ◌∙◌, subst, arith}
-use mathlib.Core.Option.{Option, none, some}
+use Rattle.std.proofs.Common.{◌≡◌, ℕ, zero, suc, ◌≤◌, List, [], ◌∷◌, ◌++◌, sym, refl, ap, ◌∙◌, subst, arith}
+use mathlib.Core.Option.{none, some}
 use native.Mathlib.Decide.{dec_le}
-use Rattle.terms.specs.Term.{Term}
 use Rattle.semantics.specs.Rules.{Rules}
 use Rattle.semantics.specs.Environment.{Env}
 use Rattle.semantics.specs.Language.{Language}
-use Rattle.semantics.specs.Steps.{Element, State, Outcome, goes, tells, fails, step_at, asked, step}
-use Rattle.semantics.specs.Tree.{Ending, out, cut, ball, uncaught, beyond, Walk, walked, tree}
+use Rattle.semantics.specs.Steps.{State, Outcome, goes, tells, fails, step_at, asked, step}
+use Rattle.semantics.specs.Tree.{cut, Walk, tree}
 use Rattle.semantics.specs.Runs.{End, no_more, error, Ran, ran, finished, also, told, run}
-use Rattle.semantics.specs.Theorem.{
-  answers,
-  nth,
-  Leaf,
-  end_of,
-  Whole,
-  whole,
-  Reaches,
-  all,
-  part,
-  bound,
-  CompleteList,
-  Complete,
-  OneStep,
-}
+use Rattle.semantics.specs.Theorem.{answers, nth, end_of, Whole, whole, Reaches, all, part, bound, Complete, OneStep}
 use Rattle.semantics.proofs.TreeProperties.{Matches, by_out, by_cut, by_uncaught, by_beyond, tree_matches}
 use Rattle.semantics.proofs.CutProperties as cuts
 use Rattle.semantics.proofs.CutProperties.{Only, only, cuts_only_to_zero}

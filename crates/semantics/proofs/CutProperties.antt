@@ -1,5 +1,5 @@
 -- A walk ends in a cut only to a marker that its query bears.
-use Rattle.std.proofs.Common.{◌≡◌, ℕ, zero, suc, Bool, true, false, cond, eqb, ◌⊎◌, List, [], ◌∷◌, ◌++◌, map, refl, inl, inr}
+use Rattle.std.proofs.Common.{◌≡◌, ℕ, zero, suc, Bool, true, false, cond, eqb, ◌⊎◌, List, [], ◌∷◌, map, refl, inl, inr}
 use mathlib.Core.Option.{Option, none, some}
 use borrow.Author.Tests.{eqb-false}
 use Rattle.terms.specs.Term.{Term}
@@ -26,36 +26,7 @@ use Rattle.semantics.specs.Actions.{
   call_of,
 }
 use Rattle.semantics.specs.Language.{Language}
-use Rattle.semantics.specs.Tree.{
-  at,
-  leave,
-  Items,
-  Ending,
-  out,
-  cut,
-  ball,
-  uncaught,
-  beyond,
-  Walk,
-  walked,
-  after,
-  visit,
-  and_then,
-  close,
-  after_cut,
-  handle,
-  collect,
-  aim,
-  thrown,
-  rest,
-  Walker,
-  each_rule,
-  each_retract,
-  recover,
-  collected,
-  over,
-  walk,
-}
+use Rattle.semantics.specs.Tree.{at, leave, Items, Ending, out, cut, ball, uncaught, beyond, Walk, walked, after, visit, and_then, close, after_cut, handle, collect, thrown, rest, Walker, each_rule, each_retract, recover, collected, over, walk}
 
 abbrev Marked : Type 1
 Marked = ℕ → Type 0

@@ -25,35 +25,7 @@ use Rattle.semantics.specs.Actions.{
   call_of,
 }
 use Rattle.semantics.specs.Language.{Language}
-use Rattle.semantics.specs.Tree.{
-  at,
-  leave,
-  Items,
-  Ending,
-  out,
-  cut,
-  ball,
-  uncaught,
-  beyond,
-  Walk,
-  walked,
-  after,
-  visit,
-  and_then,
-  close,
-  after_cut,
-  handle,
-  collect,
-  thrown,
-  rest,
-  Walker,
-  each_rule,
-  each_retract,
-  recover,
-  collected,
-  over,
-  walk,
-}
+use Rattle.semantics.specs.Tree.{at, leave, Items, out, cut, ball, uncaught, beyond, Walk, walked, after, visit, and_then, close, after_cut, handle, collect, thrown, rest, Walker, each_rule, each_retract, recover, collected, over, walk}
 use Rattle.semantics.specs.Theorem.{answers, Extends, same, further}
 
 -- the answers of a walk that begins with those of another

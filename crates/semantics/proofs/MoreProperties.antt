@@ -1,9 +1,9 @@
 -- Steps until something is told are counted exactly.
-use Rattle.std.proofs.Common.{◌≡◌, ℕ, zero, suc, ◌+◌, ◌≤◌, List, [], ◌∷◌, refl, ap, suc-add, zero-add, one-add, arith}
+use Rattle.std.proofs.Common.{◌≡◌, ℕ, zero, suc, ◌+◌, ◌≤◌, [], ◌∷◌, refl, ap, suc-add, zero-add, one-add, arith}
 use Rattle.semantics.specs.Rules.{Rules}
 use Rattle.semantics.specs.Language.{Language}
 use Rattle.semantics.specs.Steps.{Element, State, Outcome, goes, tells, fails, step_at}
-use Rattle.semantics.specs.Runs.{error, Ran, finished, also, answered, over, spent, Made, made, one_more, run, more}
+use Rattle.semantics.specs.Runs.{error, answered, over, spent, Made, made, one_more, run, more}
 use Rattle.semantics.specs.Theorem.{onward, Counted}
 
 -- what is shown of the steps m from r and s on, of which there may be n

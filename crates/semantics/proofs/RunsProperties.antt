@@ -1,10 +1,10 @@
 -- Runs of steps as a relation, how they join, and what `run` tells of them.
-use Rattle.std.proofs.Common.{◌≡◌, ℕ, zero, suc, ◌+◌, List, [], ◌∷◌, ◌++◌, sym, refl, ap, ◌∙◌, append-nil, suc-add, zero-add}
+use Rattle.std.proofs.Common.{◌≡◌, ℕ, zero, suc, ◌+◌, List, [], ◌∷◌, ◌++◌, refl, ap, ◌∙◌, append-nil, suc-add, zero-add}
 use Rattle.terms.specs.Term.{Term}
 use Rattle.semantics.specs.Rules.{Rules}
 use Rattle.semantics.specs.Environment.{Env}
 use Rattle.semantics.specs.Language.{Language}
-use Rattle.semantics.specs.Steps.{Element, State, Outcome, goes, tells, fails, step_at}
+use Rattle.semantics.specs.Steps.{Element, State, goes, tells, fails, step_at}
 use Rattle.semantics.specs.Runs.{End, no_more, error, Ran, ran, finished, also, run}
 
 -- n steps that tell xs lead from r and s to r' and s'

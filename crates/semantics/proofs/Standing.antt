@@ -1,11 +1,11 @@
 -- A query of the tree stands as a query of the machine and its contexts, above a state that changes with the answers.
-use Rattle.std.proofs.Common.{◌≡◌, ℕ, suc, ◌<◌, Bool, true, false, cond, eqb, List, [], ◌∷◌, ◌++◌, refl, ap, ◌∙◌, append_assoc, arith, eq-eqb, ne_eqb}
+use Rattle.std.proofs.Common.{◌≡◌, ℕ, ◌<◌, Bool, true, false, cond, eqb, List, [], ◌∷◌, ◌++◌, refl, ap, arith, eq-eqb, ne_eqb}
 use Rattle.terms.specs.Term.{Term}
 use Rattle.semantics.specs.Environment.{Env}
 use Rattle.semantics.specs.Actions.{call_of, fail_goal}
 use Rattle.semantics.specs.Language.{Language}
-use Rattle.semantics.specs.Steps.{Entry, on, Query, context, Contexts, State, back, before, collects, put, land}
-use Rattle.semantics.specs.Tree.{Item, at, leave, Items}
+use Rattle.semantics.specs.Steps.{on, Query, context, Contexts, State, back, before, collects, put, land}
+use Rattle.semantics.specs.Tree.{at, leave, Items}
 
 -- a state for each list of answers given since
 abbrev pub Base : Type 0

@@ -1,5 +1,5 @@
 -- What stands goes on standing: after answers, under a further element, and under a new marker.
-use Rattle.std.proofs.Common.{◌≡◌, ℕ, suc, ◌<◌, Bool, true, false, cond, eqb, List, [], ◌∷◌, ◌++◌, refl, ap, ◌∙◌, append_assoc, arith, eq-eqb, ne_eqb}
+use Rattle.std.proofs.Common.{◌≡◌, ℕ, suc, ◌<◌, Bool, true, false, eqb, List, [], ◌∷◌, ◌++◌, refl, ap, ◌∙◌, append_assoc, arith, eq-eqb, ne_eqb}
 use Rattle.terms.specs.Term.{Term}
 use Rattle.semantics.specs.Rules.{Clause, Live, live}
 use Rattle.semantics.specs.Environment.{Env}

@@ -1,12 +1,12 @@
 -- What the steps of a query tell, by the walk of its tree to a height.
-use Rattle.std.proofs.Common.{◌≡◌, ℕ, zero, suc, ◌+◌, ◌-◌, ◌*◌, ◌≤◌, Bool, true, false, cond, eqb, List, [], ◌∷◌, refl, subst, arith}
+use Rattle.std.proofs.Common.{◌≡◌, ℕ, suc, ◌+◌, ◌-◌, ◌≤◌, Bool, true, false, cond, eqb, List, [], ◌∷◌, refl, subst, arith}
 use Rattle.terms.specs.Term.{Term, size}
 use Rattle.semantics.specs.Rules.{Rules}
 use Rattle.semantics.specs.Environment.{Env}
 use Rattle.semantics.specs.Language.{Language}
 use Rattle.semantics.specs.Steps.{on, Moment, mark, State, asked}
-use Rattle.semantics.specs.Tree.{at, Ending, out, cut, ball, uncaught, beyond, Walk, walked, tree}
-use Rattle.semantics.specs.Runs.{End, no_more, error, ran, finished, run}
+use Rattle.semantics.specs.Tree.{at, out, cut, uncaught, beyond, Walk, walked, tree}
+use Rattle.semantics.specs.Runs.{no_more, error, ran, finished, run}
 use Rattle.semantics.specs.Theorem.{bound}
 use Rattle.semantics.proofs.RunsProperties.{Runs, runs_on, run_ran, run_ended, run_failed}
 use Rattle.semantics.proofs.Standing.{with_mark, nowhere, bare, tells_it, done}

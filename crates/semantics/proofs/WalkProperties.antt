@@ -1,9 +1,9 @@
 -- Every walk says what the machine does, by induction on its height.
-use Rattle.std.proofs.Common.{◌≡◌, ℕ, zero, suc, ◌+◌, ◌*◌, ◌<◌, ◌≤◌, Bool, true, false, cond, eqb, List, [], ◌∷◌, ◌++◌, map, sym, refl, ap, ◌∙◌, arith, eq-eqb}
+use Rattle.std.proofs.Common.{◌≡◌, ℕ, zero, suc, ◌+◌, ◌<◌, Bool, true, false, cond, eqb, List, [], ◌∷◌, ◌++◌, map, sym, refl, ap, ◌∙◌, arith, eq-eqb}
 use mathlib.Core.List.{map-append}
 use mathlib.Core.Option.{Option, none, some}
 use Rattle.terms.specs.Term.{Term, size}
-use Rattle.semantics.specs.Rules.{Clause, Rules, Live, live, live_rules, add_rule, erase_rule, name_of, arity_of, clause_size}
+use Rattle.semantics.specs.Rules.{Rules, Live, live, live_rules, add_rule, erase_rule, name_of, arity_of, clause_size}
 use Rattle.semantics.specs.Environment.{Env}
 use Rattle.semantics.specs.Errors.{error_at, no_procedure}
 use Rattle.semantics.specs.Actions.{
@@ -28,61 +28,9 @@ use Rattle.semantics.specs.Actions.{
   fail_goal,
 }
 use Rattle.semantics.specs.Language.{Language, Calls, does, errs}
-use Rattle.semantics.specs.Steps.{
-  on,
-  throw,
-  Query,
-  context,
-  Contexts,
-  Moment,
-  Element,
-  goal,
-  try,
-  retry,
-  mark,
-  collector,
-  State,
-  back,
-  goes,
-  tells,
-  fails,
-  rebound,
-  taking,
-  marking,
-  tries,
-  retries,
-  raise,
-  list_size,
-  put,
-  land,
-  throw_to,
-  act,
-  step_at,
-}
-use Rattle.semantics.specs.Tree.{
-  at,
-  leave,
-  Items,
-  out,
-  ball,
-  uncaught,
-  Walk,
-  walked,
-  visit,
-  and_then,
-  thrown,
-  aim,
-  Walker,
-  rest,
-  each_rule,
-  each_retract,
-  close,
-  recover,
-  collected,
-  over,
-  walk,
-}
-use Rattle.semantics.proofs.RunsProperties.{Runs, here, moves, speaks, runs_once}
+use Rattle.semantics.specs.Steps.{on, throw, Query, context, Contexts, Moment, Element, goal, mark, collector, back, goes, tells, rebound, taking, marking, tries, retries, raise, list_size, land, throw_to, act, step_at}
+use Rattle.semantics.specs.Tree.{at, leave, Items, out, walked, visit, and_then, thrown, each_rule, each_retract, close, over, walk}
+use Rattle.semantics.proofs.RunsProperties.{here, moves, speaks, runs_once}
 use Rattle.semantics.proofs.Standing.{
   Base,
   Marks,
@@ -108,21 +56,8 @@ use Rattle.semantics.proofs.Standing.{
   goes_fail,
   goes_off,
 }
-use Rattle.semantics.proofs.StandingProperties.{
-  stands_aims,
-  later_aims,
-  later_stands,
-  goal_skipped,
-  under,
-  under_tries,
-  under_retries,
-  above_mark,
-  above_ball,
-  bears_new,
-  fresh,
-  beside,
-}
-use Rattle.semantics.proofs.Claims.{shown, first, at_out, at_ball, at_uncaught, at_beyond, Claim, claim}
+use Rattle.semantics.proofs.StandingProperties.{stands_aims, later_stands, goal_skipped, under, under_tries, under_retries, above_mark, above_ball, bears_new, fresh, beside}
+use Rattle.semantics.proofs.Claims.{first, at_out, at_ball, at_uncaught, at_beyond, Claim, claim}
 use Rattle.semantics.proofs.ClaimsProperties.{
   unshown,
   claim_visit,

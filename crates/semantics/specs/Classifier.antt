@@ -1,5 +1,5 @@
 -- The classifier: the 29 built-in predicates by name and number of arguments; every other goal invokes a predicate.
-use Rattle.std.specs.Prelude.{ℕ, ◌+◌, Bool, true, false, cond, ◌&&◌, ◌||◌, List, [], ℤ, codes, ◌==◌, nat_lt}
+use Rattle.std.specs.Prelude.{ℕ, ◌+◌, Bool, true, false, cond, ◌&&◌, ◌||◌, List, codes, ◌==◌, nat_lt}
 use Rattle.std.proofs.Math.Option.{Option, none, some}
 use Rattle.arithmetic.specs.declared.comparison.Comparison.{Comparison}
 use Rattle.arithmetic.specs.declared.comparison.Comparison.TheVariants.{
@@ -17,7 +17,6 @@ use Rattle.terms.specs.Goals.{same, goal_form}
 use Rattle.terms.specs.BuiltIns.{is_built_in}
 use Rattle.rules.specs.Meaning.{End, front, back}
 use Rattle.unification.specs.Copies.{copy, width}
-use Rattle.semantics.specs.Rules.{Clause, arity_of}
 use Rattle.semantics.specs.Environment.{Env, resolve, unify_in}
 use Rattle.semantics.specs.Evaluation.{Value, number, fault, evaluate}
 use Rattle.semantics.specs.Errors.{

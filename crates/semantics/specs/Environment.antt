@@ -1,5 +1,5 @@
 -- What a goal is read under: the bindings made so far, and the next unused variable.
-use Rattle.std.specs.Prelude.{ℕ, ◌+◌, List, [], ◌∷◌, codes}
+use Rattle.std.specs.Prelude.{ℕ, ◌+◌, List, [], ◌∷◌}
 use Rattle.std.proofs.Math.Option.{Option, none, some}
 use Rattle.terms.specs.Term.{Term, app, nil, cons}
 use Rattle.terms.specs.Known.{empty_name, dot_name}

@@ -1,6 +1,6 @@
 -- What the steps and the tree share about terms: what a goal does, and how rules, balls and results meet bindings.
 -- The theorems hold for every such language; Prolog is the one of the classifier.
-use Rattle.std.specs.Prelude.{◌≡◌, ◌⊎◌, List}
+use Rattle.std.specs.Prelude.{◌≡◌, List}
 use Rattle.std.proofs.Math.Option.{Option}
 use Rattle.terms.specs.Term.{Term}
 use Rattle.semantics.specs.Rules.{Clause}

@@ -1,6 +1,6 @@
 -- Rules as a value: every rule ever added, by label; for each name and number of arguments the row of labels of
 -- the live rules; and which of these are known.
-use Rattle.std.specs.Prelude.{ℕ, zero, suc, ◌+◌, Bool, true, false, cond, ◌&&◌, ◌||◌, List, [], ◌∷◌, ◌++◌, length, ◌==◌}
+use Rattle.std.specs.Prelude.{ℕ, zero, suc, ◌+◌, Bool, false, cond, ◌&&◌, ◌||◌, List, [], ◌∷◌, ◌++◌, length, ◌==◌}
 use Rattle.std.proofs.Math.Option.{Option, none, some}
 use Rattle.terms.specs.Term.{Term, var, int, app, count, size}
 use Rattle.terms.specs.Goals.{same}

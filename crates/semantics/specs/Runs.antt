@@ -1,11 +1,10 @@
 -- Runs: so many steps and what they told, and steps until something is told.
 use Rattle.std.specs.Prelude.{ℕ, zero, suc, List, [], ◌∷◌}
-use Rattle.std.proofs.Math.Option.{Option, none, some}
 use Rattle.terms.specs.Term.{Term}
 use Rattle.semantics.specs.Rules.{Rules}
 use Rattle.semantics.specs.Environment.{Env}
 use Rattle.semantics.specs.Language.{Language}
-use Rattle.semantics.specs.Steps.{Element, State, Outcome, goes, tells, fails, step_at}
+use Rattle.semantics.specs.Steps.{State, goes, tells, fails, step_at}
 
 -- the end of a search: "no", or an error with its ball
 pub data End : Type 0 where

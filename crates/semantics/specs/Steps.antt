@@ -1,5 +1,5 @@
 -- The steps: the state is a list of elements, and a step is made at the first of them. Nothing here is limited.
-use Rattle.std.specs.Prelude.{ℕ, suc, ◌+◌, ◌*◌, Bool, true, false, cond, List, [], ◌∷◌, ◌++◌, codes, ◌==◌}
+use Rattle.std.specs.Prelude.{ℕ, suc, ◌+◌, ◌*◌, Bool, true, false, cond, List, [], ◌∷◌, ◌++◌, ◌==◌}
 use Rattle.std.proofs.Math.Option.{Option, none, some}
 use Rattle.terms.specs.Term.{Term, size}
 use Rattle.semantics.specs.Rules.{Clause, Rules, Live, live, live_rules, add_rule, erase_rule, clause_size, name_of, arity_of}

@@ -7,23 +7,7 @@ use Rattle.semantics.specs.Environment.{Env}
 use Rattle.semantics.specs.Language.{Language}
 use Rattle.semantics.specs.Steps.{State, asked, step}
 use Rattle.semantics.specs.Tree.{Ending, out, cut, ball, uncaught, beyond, Walk, walked, tree}
-use Rattle.semantics.specs.Runs.{
-  End,
-  no_more,
-  error,
-  Ran,
-  ran,
-  finished,
-  also,
-  told,
-  Stop,
-  answered,
-  over,
-  spent,
-  Made,
-  run,
-  more,
-}
+use Rattle.semantics.specs.Runs.{End, no_more, error, Ran, finished, also, told, answered, over, spent, Made, run, more}
 
 abbrev pub answers : Walk → List Env
 answers (walked xs e r v) = xs

@@ -1,9 +1,9 @@
 -- The search tree of a query: its walk to a height gives the answers in order, an ending and the rules left.
 -- It knows nothing of elements, units or limits.
-use Rattle.std.specs.Prelude.{ℕ, zero, suc, ◌+◌, Bool, true, false, cond, List, [], ◌∷◌, ◌++◌, map, ◌==◌}
-use Rattle.std.proofs.Math.Option.{Option, none, some}
+use Rattle.std.specs.Prelude.{ℕ, zero, suc, ◌+◌, cond, List, [], ◌∷◌, ◌++◌, map, ◌==◌}
+use Rattle.std.proofs.Math.Option.{none, some}
 use Rattle.terms.specs.Term.{Term}
-use Rattle.semantics.specs.Rules.{Clause, Rules, Live, live, live_rules, add_rule, erase_rule, name_of, arity_of}
+use Rattle.semantics.specs.Rules.{Rules, Live, live, live_rules, add_rule, erase_rule, name_of, arity_of}
 use Rattle.semantics.specs.Environment.{Env}
 use Rattle.semantics.specs.Errors.{error_at, no_procedure}
 use Rattle.semantics.specs.Actions.{

@@ -1,7 +1,7 @@
 -- What a step needs of the memory: units, elements, nodes of results, and room for a rule that it adds.
-use Rattle.std.specs.Prelude.{ℕ, ◌+◌, ◌*◌, max, Bool, true, false, cond, ◌||◌, List, [], ◌∷◌, length, ◌==◌, nat_le, nat_lt}
+use Rattle.std.specs.Prelude.{ℕ, ◌+◌, ◌*◌, max, Bool, false, cond, ◌||◌, List, [], ◌∷◌, length, ◌==◌, nat_le, nat_lt}
 use Rattle.terms.specs.Term.{Term, size}
-use Rattle.semantics.specs.Rules.{Clause, Rules, Live, live, clause_size, arity_of}
+use Rattle.semantics.specs.Rules.{Clause, Rules, live, clause_size, arity_of}
 use Rattle.semantics.specs.Errors.{error_at, no_procedure}
 use Rattle.semantics.specs.Actions.{
   Action,
@@ -23,29 +23,7 @@ use Rattle.semantics.specs.Actions.{
 }
 use Rattle.semantics.specs.Language.{Language}
 use Rattle.semantics.specs.Positions.{positions}
-use Rattle.semantics.specs.Steps.{
-  Entry,
-  on,
-  throw,
-  Query,
-  Context,
-  context,
-  Contexts,
-  Moment,
-  Element,
-  goal,
-  try,
-  retry,
-  mark,
-  collector,
-  State,
-  Outcome,
-  goes,
-  tells,
-  fails,
-  list_size,
-  step_at,
-}
+use Rattle.semantics.specs.Steps.{on, throw, context, Contexts, Moment, Element, goal, try, retry, mark, collector, State, Outcome, goes, tells, fails, list_size, step_at}
 
 -- so many units, elements and nodes of results; so many labels of rules, and nodes of all rules
 pub record Room : Type 0 where

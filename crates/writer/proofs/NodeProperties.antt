@@ -3,7 +3,7 @@ use Rattle.std.proofs.Common.{◌≡◌, ℕ, ◌+◌, ◌<◌, ◌≤◌, true,
 use Rattle.std.proofs.lemmas.List.{length-append, get_or_past, take_all}
 use Rattle.terms.specs.declared.node.Node.{Node}
 use Rattle.terms.specs.declared.node.Node.TheVariants.{App}
-use Rattle.terms.specs.Term.{Term, int, app}
+use Rattle.terms.specs.Term.{Term, int}
 use Rattle.terms.specs.Rows.{terms_at, build, meanings, meaning, fitting, fitting_from, all_below}
 use Rattle.terms.specs.Places.{no_node}
 use Rattle.terms.proofs.FittingProperties.{all_below_at, fitting_args, fitting_from_at}

@@ -1,4 +1,4 @@
-use Rattle.std.proofs.Common.{sym, ap, ◌∙◌}
+use Rattle.std.proofs.Common.{ap, ◌∙◌}
 use Rattle.names.specs.View.{list}
 use Rattle.terms.specs.Known.{true_name}
 use Rattle.tokens.specs.Bytes.{same}

@@ -1,4 +1,4 @@
-use Rattle.std.proofs.Common.{◌≡◌, ℕ, ◌<◌, ◌≤◌, true, List, [], ◌∷◌, ◌++◌, length, vec_items, vec_len, Option, sym, ap, ◌∙◌, subst, arith}
+use Rattle.std.proofs.Common.{◌<◌, ◌≤◌, true, [], ◌∷◌, ◌++◌, length, vec_items, sym, subst, arith}
 use Rattle.checking.specs.Lines.{Keeps, first_after}
 use Rattle.checking.proofs.LinesProperties.{kept_with_room, kept_when_full}
 use Rattle.checking.proofs.line.LineBuffer.push.Goals as goal
