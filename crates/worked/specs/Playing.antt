@@ -4,12 +4,11 @@ use Rattle.std.proofs.Math.Option.{Option, none, some}
 use Rattle.terms.specs.Term.{Term, var}
 use Rattle.text.specs.Numbering.{is_lone}
 use Rattle.writer.specs.Shown.{firsts, shown}
-use Rattle.semantics.specs.Rules.{Rules}
 use Rattle.semantics.specs.Environment.{Env, empty_env, resolve}
 use Rattle.semantics.specs.Prolog.{prolog}
-use Rattle.semantics.specs.Steps.{State, asked}
+use Rattle.semantics.specs.Steps.{asked}
 use Rattle.semantics.specs.Tree.{Walk, walked, tree}
-use Rattle.semantics.specs.Runs.{End, no_more, error, Stop, answered, over, spent, Made, more}
+use Rattle.semantics.specs.Runs.{End, no_more, error, answered, over, spent, Made, more}
 use Rattle.semantics.specs.Theorem.{end_of}
 use Rattle.worked.specs.Reading.{Asked, query_of, rules_of}
 

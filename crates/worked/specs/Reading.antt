@@ -3,7 +3,7 @@ use Rattle.std.specs.Prelude.{ℕ, List, [], ◌∷◌, length}
 use Rattle.std.proofs.Math.Option.{Option, none, some}
 use Rattle.terms.specs.Term.{Term}
 use Rattle.terms.specs.Goals.{goal_form}
-use Rattle.grammar.specs.Written.{Written, Sentence, fact, rule, query}
+use Rattle.grammar.specs.Written.{Sentence, fact, rule, query}
 use Rattle.grammar.specs.Grammar.{a_rule, a_query}
 use Rattle.grammar.specs.Machine.{VerdictOf, good, bad}
 use Rattle.grammar.specs.Theorem.{judged}
