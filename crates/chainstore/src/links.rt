@@ -31,8 +31,8 @@ pub fn label_of(cell: u32) -> Option<u32>
 pub fn insert(links: &mut Vec<Link>, before: u32, after: u32)
     requires before_in_bounds { before < vec_len links.old }
     requires after_in_bounds { after < vec_len links.old }
-    requires links_len_bound { vec_len links.old < vec_capacity links.old }
-    requires links_len_bound_2 { vec_len links.old < 65536 }
+    requires room { vec_len links.old < vec_capacity links.old }
+    requires few { vec_len links.old < 65536 }
     ensures cap { vec_capacity links.new ≡ vec_capacity links.old }
     ensures len { vec_len links.new ≡ vec_len links.old + 1 }
     ensures links { Inserted links.old.items before after links.new.items }

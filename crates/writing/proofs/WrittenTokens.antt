@@ -22,9 +22,9 @@ record Ends (c : ℕ) : Type 0 where
   no_symbol : symbol c ≡ false
   no_quote : quote c ≡ false
 
-not-true : (b : Bool) → not b ≡ true → b ≡ false
-not-true true h = sym h
-not-true false h = refl
+not_true : (b : Bool) → not b ≡ true → b ≡ false
+not_true true h = sym h
+not_true false h = refl
 
 ends : (c : ℕ) → cuts c ≡ true → Ends c
 ends c h =
@@ -32,10 +32,10 @@ ends c h =
     let y = and_both (not (word c) && not (digit c)) (not (symbol c)) q.0 in
     let d = and_both (not (word c)) (not (digit c)) y.0 in
     record {
-      no_word = not-true (word c) d.0;
-      no_digit = not-true (digit c) d.1;
-      no_symbol = not-true (symbol c) y.1;
-      no_quote = not-true (quote c) q.1;
+      no_word = not_true (word c) d.0;
+      no_digit = not_true (digit c) d.1;
+      no_symbol = not_true (symbol c) y.1;
+      no_quote = not_true (quote c) q.1;
     }
 
 -- which token a first byte begins

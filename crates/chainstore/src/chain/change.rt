@@ -44,9 +44,9 @@ impl ChainStore {
 // Adds a cell at one end of a ring: behind its head, or before it.
 fn add_cell(links: &mut Vec<Link>, head: u32, side: Side)
     requires head_in_bounds { head < vec_len links.old }
-    requires head_in_bounds_2 { besides (end_of side) links.old.items head < vec_len links.old }
-    requires links_len_bound { vec_len links.old < vec_capacity links.old }
-    requires links_len_bound_2 { vec_len links.old < 65536 }
+    requires neighbour_in_bounds { besides (end_of side) links.old.items head < vec_len links.old }
+    requires room { vec_len links.old < vec_capacity links.old }
+    requires few { vec_len links.old < 65536 }
     ensures cap { vec_capacity links.new ≡ vec_capacity links.old }
     ensures len { vec_len links.new ≡ vec_len links.old + 1 }
     ensures links { InsertedAt (end_of side) links.old.items head

@@ -42,8 +42,8 @@ impl ChainStore {
 
 // Adds the head of every ring, each alone in its ring.
 fn add_heads(links: &mut Vec<Link>)
-    requires links_len { vec_len links.old ≡ 0 }
-    requires bound { 4608 ≤ vec_capacity links.old }
+    requires empty { vec_len links.old ≡ 0 }
+    requires room { 4608 ≤ vec_capacity links.old }
     ensures cap { vec_capacity links.new ≡ vec_capacity links.old }
     ensures len { vec_len links.new ≡ 4608 }
     ensures alone { Alone 4608 links.new.items }

@@ -39,9 +39,9 @@ add_cell-requires c =
     = ap (besides (end_of c.args.side) (vec_items s.links)) at in
     record {
       head_in_bounds = omega arith;
-      head_in_bounds_2 = omega arith;
-      links_len_bound = omega arith;
-      links_len_bound_2 = omega arith;
+      neighbour_in_bounds = omega arith;
+      room = omega arith;
+      few = omega arith;
     }
 
 pub invariant_of-self : goal.invariant_of-self
