@@ -1,5 +1,5 @@
 #!/usr/bin/env python3
-"""Respells in proofs/F/ the names that the toolchain makes: a name from source code keeps its `_` inside them.
+"""Respells in proofs/F/ the hyphenated names, as the toolchain makes them: a name from source code keeps its `_` inside them.
 
 `returns-in-err-end` is `returns-in_err-end` today, and `c.run-end-end` is `c.run_end-end` for `run_end`.
 Run at the top of a checkout, once; names of crates follow, or all.

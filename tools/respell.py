@@ -1,7 +1,8 @@
 #!/usr/bin/env python3
-"""Respells the repository's own definitions and lemmas, once, at the top of a checkout.
+"""Respells the repository's own definitions and lemmas, once, at the top of a checkout: in specs/, proofs/, src/ and
+must-fail/, and between backticks in README.md and docs/.
 
-Words are in snake case, and types and modules in camel case. Names that come from source code or from the standard
+Words become snake case; names that begin with a capital keep their letters. Names that come from source code or from the standard
 library, names that the toolchain makes, texts in quotes and plain words of comments stay. `--check` only prints the table and the names that fall together.
 """
 import glob
