@@ -1,9 +1,10 @@
 #!/usr/bin/env python3
-"""Respells the repository's own definitions and lemmas, once, at the top of a checkout: in specs/, proofs/, src/ and
-must-fail/, and between backticks in README.md and docs/.
+"""Respells the repository's own definitions and lemmas, at the top of a checkout: in specs/, proofs/, src/ and must-fail/,
+and between backticks in README.md and docs/.
 
-Words become snake case; names that begin with a capital keep their letters. Names that come from source code or from the standard
-library, names that the toolchain makes, texts in quotes and plain words of comments stay. `--check` only prints the table and the names that fall together.
+Words become snake case; names that begin with a capital keep their letters. Names from source code or the standard
+library, names that the toolchain makes, texts in quotes and plain words of comments stay. `--check` only prints the
+table, and which new names were there before.
 """
 import glob
 import re
@@ -11,11 +12,12 @@ import sys
 
 WORD = re.compile(r"[A-Za-z_][\w'\-]*[\w']|[A-Za-z_]")
 QUOTED = re.compile(r'"(?:\\.|[^"\\\n])*"')
-DECLARED = re.compile(r"^\s*(?:[|]\s*)?(?:(?:abbrev|unfoldable|pub|private|mutual)\s+)*([A-Za-z_][\w'\-]*)(?:\s*,\s*[A-Za-z_][\w'\-]*)*\s+:\s")
-DEFINES = re.compile(r"^\s*(?:(?:abbrev|unfoldable)\s+)(?:(?:pub|mutual)\s+)*([A-Za-z_][\w'\-]*)\s*:\s")
-HEADED = re.compile(r"^\s*(?:pub\s+)?(?:data|record)\s+([A-Za-z_][\w'\-]*)")
-MADE = re.compile(r"^\s*(?:abbrev\s+)?(?:pub\s+)?([A-Za-z_][\w'\-]*)\s*:\s*goal\.")
-# fallen together with another name, or better by hand
+DECLARED = re.compile(r"\s*(?:[|]\s*)?(?:(?:abbrev|unfoldable|pub|private|mutual)\s+)*([A-Za-z_][\w'\-]*)(?:\s*,\s*[A-Za-z_][\w'\-]*)*\s+:(?:\s|$)")
+BOUND = re.compile(r"[({]([^(){}:]*?) : ")
+LET = re.compile(r"\s*let\s+([A-Za-z_][\w'\-]*)\s")
+ANSWER = re.compile(r"\s*(?:abbrev\s+)?(?:pub\s+)?([A-Za-z_][\w'\-]*)\s*:\s*goal\.")
+INNER_CAPITAL = re.compile(r"[a-z][A-Z]")
+# what would fall together with another name
 BY_HAND = {
     "all-numbered": "numbers_all",
     "arguments-readable": "arguments_are_readable",
@@ -41,140 +43,113 @@ BY_HAND = {
 }
 
 
-def code_files():
+def read(path):
+    with open(path, encoding="utf-8") as file:
+        return file.read()
+
+
+def change(path, turned):
+    if turned != read(path):
+        with open(path, "w", encoding="utf-8") as file:
+            file.write(turned)
+
+
+def antt_files():
     return sorted(glob.glob("crates/*/specs/**/*.antt", recursive=True) + glob.glob("crates/*/proofs/**/*.antt", recursive=True))
 
 
-def is_function_file(path):
-    return path.count("/") > 3 and "/proofs/" in path
-
-
-def bare(line):
-    return re.sub(r"--.*", "", QUOTED.sub('""', line))
+def source_files():
+    return sorted(glob.glob("crates/*/src/**/*.rt", recursive=True))
 
 
 def snake(word):
-    """`goalForms` as `goal_forms`; a name that begins with a capital stays."""
+    """`goalForms` as `goal_forms`."""
     if not word[0].islower() and word[0] != "_":
         return word
     return re.sub(r"(?<=[a-z0-9'])([A-Z])(?=[a-z0-9'\-]|$)", lambda m: "_" + m[1].lower(), word)
 
 
-def names():
-    """The declared names, those of definitions, and those that the toolchain makes."""
-    declared, defined, made = set(), set(), set()
-    for path in code_files():
-        inside_data = False
-        for line in open(path, encoding="utf-8"):
-            text = bare(line)
-            m = MADE.match(text)
-            if m:
-                made.add(m[1])
-                continue
-            h = HEADED.match(text)
-            if h:
-                defined.add(h[1])
-                declared.add(h[1])
-                inside_data = True
-                continue
-            if text.strip() and not text[0].isspace():
-                inside_data = False
-            m = DEFINES.match(text)
-            if m:
-                defined.add(m[1])
-            m = DECLARED.match(text)
-            if m:
-                declared.add(m[1])
-                if inside_data:
-                    defined.add(m[1])
-            for m in re.finditer(r"[({]([^(){}:]*?) : ", text):
-                for w in m[1].split():
-                    if WORD.fullmatch(w):
-                        declared.add(w)
-            m = re.match(r"^\s*(?:let\s+)([A-Za-z_][\w'\-]*)\s", text)
-            if m:
-                declared.add(m[1])
-    return declared, defined, made
+def code_of(line):
+    return re.sub(r"--.*", "", QUOTED.sub('""', line))
 
 
-def library():
-    """What the repository takes from the standard library, by its names there."""
+def declared_names():
+    """The names that the repository gives, and those that answer a goal and so are the toolchain's."""
+    given, made = set(), set()
+    for path in antt_files():
+        for line in map(code_of, read(path).split("\n")):
+            answer = ANSWER.match(line)
+            if answer:
+                made.add(answer[1])
+                continue
+            given.update(m[1] for m in (DECLARED.match(line), LET.match(line)) if m)
+            given.update(w for m in BOUND.finditer(line) for w in m[1].split() if WORD.fullmatch(w))
+    return given - made
+
+
+def library_names():
     words = set()
-    for path in code_files() + glob.glob("crates/*/src/**/*.rt", recursive=True):
-        for m in re.finditer(r"Rattle\.std\.[\w.]*\.\{([^}]*)\}", open(path, encoding="utf-8").read()):
-            for w in m[1].split(","):
-                words.update(w.split())
+    for path in antt_files() + source_files():
+        for items in re.findall(r"Rattle\.std\.[\w.]*\.\{([^}]*)\}", read(path)):
+            words.update(items.replace(",", " ").split())
     return words
 
 
 def table():
-    declared, defined, made = names()
-    kept = library() | made
-    out = {}
-    for name in sorted(declared - kept):
-        new = BY_HAND.get(name, snake(name.replace("-", "_")))
-        if new != name:
-            out[name] = new
-    return out, declared, made
+    new = {name: BY_HAND.get(name, snake(name.replace("-", "_"))) for name in declared_names() - library_names()}
+    return {old: name for old, name in new.items() if old != name}
 
 
-def turn(text, rows, made):
-    def one(m):
-        if m.start() and text[m.start() - 1] == "." and re.search(r"\b(goal|c|w|l)\.$", text[: m.start()]):
-            return m[0]
-        return rows.get(m[0], m[0])
-
-    return WORD.sub(one, text)
+def turn(text, rows):
+    """A name behind `goal.`, `c.`, `w.` or `l.` is the toolchain's."""
+    return WORD.sub(lambda m: m[0] if re.search(r"\b(goal|c|w|l)\.$", text[: m.start()]) else rows.get(m[0], m[0]), text)
 
 
-def turn_line(line, rows, made, mark):
-    """Code of the line is turned whole; in quotes nothing is; in a comment only names with an inner capital."""
-    at, out = 0, ""
-    comment = None
-    i = 0
-    while i < len(line):
-        q = QUOTED.match(line, i)
-        if q:
-            i = q.end()
-            continue
-        if line.startswith(mark, i) and (mark == "//" or i == 0 or line[i - 1].isspace()):
-            comment = i
-            break
-        i += 1
-    code, rest = (line, "") if comment is None else (line[:comment], line[comment:])
-    for q in QUOTED.finditer(code):
-        out += turn(code[at : q.start()], rows, made) + q[0]
-        at = q.end()
-    out += turn(code[at:], rows, made)
-    inner = {k: v for k, v in rows.items() if re.search(r"[a-z][A-Z]", k)}
-    return out + turn(rest, inner, made)
+def split_comment(line, mark):
+    at = 0
+    while at < len(line):
+        quoted = QUOTED.match(line, at)
+        if quoted:
+            at = quoted.end()
+        elif line.startswith(mark, at) and (mark == "//" or at == 0 or line[at - 1].isspace()):
+            return line[:at], line[at:]
+        else:
+            at += 1
+    return line, ""
+
+
+def turn_line(line, rows, inner, mark):
+    code, comment = split_comment(line, mark)
+    pieces, at = [], 0
+    for quoted in QUOTED.finditer(code):
+        pieces += [turn(code[at : quoted.start()], rows), quoted[0]]
+        at = quoted.end()
+    return "".join(pieces) + turn(code[at:], rows) + turn(comment, inner)
+
+
+def respell_aliases(path):
+    """A name that a file gives by `as`: `a-space` is `a_space` in that file."""
+    text = read(path)
+    given = set(re.findall(r" as ([a-z]+(?:-[a-z]+)+)", text))
+    change(path, WORD.sub(lambda m: m[0].replace("-", "_") if m[0] in given else m[0], text))
 
 
 def main():
-    rows, declared, made = table()
+    rows = table()
     if "--check" in sys.argv:
-        old = {w for f in code_files() for l in open(f, encoding="utf-8") for w in WORD.findall(bare(l))}
-        news = {}
-        for k, v in rows.items():
-            news.setdefault(v, []).append(k)
-        for k, v in sorted(rows.items()):
-            print(k, "->", v, "(also there)" if v in old or len(news[v]) > 1 else "")
-        print(len(rows), "names; made by the toolchain:", sorted(set(rows) & made))
+        before = {w for path in antt_files() for line in read(path).split("\n") for w in WORD.findall(code_of(line))}
+        for old, new in sorted(rows.items()):
+            print(old, "->", new, "(also there)" if new in before or list(rows.values()).count(new) > 1 else "")
         return
-    inner = {k: v for k, v in rows.items() if re.search(r"[a-z][A-Z]", k)}
-    for path in code_files() + sorted(glob.glob("crates/*/src/**/*.rt", recursive=True) + glob.glob("crates/*/must-fail/*.edit")):
-        text = open(path, encoding="utf-8").read()
-        mark = "--" if path.endswith(".antt") else "//"
-        if path.endswith(".edit"):
-            mark = "--" if ".antt" in text.split("\n")[0] else "//"
-        new = "\n".join(turn_line(l, rows, made, mark) for l in text.split("\n"))
-        if new != text:
-            open(path, "w", encoding="utf-8").write(new)
+    inner = {old: new for old, new in rows.items() if INNER_CAPITAL.search(old)}
+    for path in antt_files() + source_files() + glob.glob("crates/*/must-fail/*.edit"):
+        text = read(path)
+        mark = "--" if ".antt" in (text.split("\n")[0] if path.endswith(".edit") else path) else "//"
+        change(path, "\n".join(turn_line(line, rows, inner, mark) for line in text.split("\n")))
     for path in ["README.md"] + glob.glob("docs/*.md"):
-        text = open(path, encoding="utf-8").read()
-        new = re.sub(r"`[^`\n]+`", lambda m: turn(m[0], inner, made), text)
-        if new != text:
-            open(path, "w", encoding="utf-8").write(new)
+        change(path, re.sub(r"`[^`\n]+`", lambda m: turn(m[0], inner), read(path)))
+    for path in antt_files() + source_files():
+        respell_aliases(path)
 
 
 main()

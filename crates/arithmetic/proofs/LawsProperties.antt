@@ -1,5 +1,6 @@
 -- The laws of the two divisions, by the signs of the dividend and the divisor.
-use Rattle.std.proofs.Common.{◌≡◌, ℕ, zero, suc, ◌+◌, ◌-◌, ◌*◌, ◌/◌, ◌%◌, ◌<◌, false, ◌⊎◌, ℤ, pos, negsuc, ◌+ℤ◌, ◌*ℤ◌, neg_ℤ, nat_abs, sym, refl, ap, ◌∙◌, inl, inr, mod-lt, zero-lt-suc, mul-zero, arith}
+use Rattle.std.proofs.Common.{◌≡◌, ℕ, zero, suc, ◌+◌, ◌-◌, ◌*◌, ◌/◌, ◌%◌, ◌<◌, false, ◌⊎◌, ℤ, pos, negsuc, ◌+ℤ◌, ◌*ℤ◌}
+use Rattle.std.proofs.Common.{neg_ℤ, nat_abs, sym, refl, ap, ◌∙◌, inl, inr, mod-lt, zero-lt-suc, mul-zero, arith}
 use native.Mathlib.Nat.{div-add-mod, zero-mod}
 use lib.IntN.{neg_ℤ-+ℤ, pos-ne-negsuc}
 use lib.Signed.{quot_z, rem_z}

@@ -1,5 +1,6 @@
 -- What fits 32 bits is in range, so that a checked operation gives its value or an overflow as `ranged` says.
-use Rattle.std.proofs.Common.{◌≡◌, ℕ, zero, suc, ◌<◌, true, false, leb, ℤ, pos, negsuc, neg_ℤ, nat_abs, Some, None, Ok, Option, refl, ap, ⊎_elim, arith, w32, SFits, of_z}
+use Rattle.std.proofs.Common.{◌≡◌, ℕ, zero, suc, ◌<◌, true, false, leb, ℤ, pos, negsuc, neg_ℤ, nat_abs, Some, None, Ok}
+use Rattle.std.proofs.Common.{Option, refl, ap, ⊎_elim, arith, w32, SFits, of_z}
 use lib.Signed.{quot_z}
 use Rattle.std.specs.Option.{SomeIff, ok_or}
 use Rattle.std.proofs.lemmas.Bool.{le-leb, lt-leb, ne_eqb, cases_lt}

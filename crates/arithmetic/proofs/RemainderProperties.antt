@@ -1,5 +1,7 @@
 -- The remainder with the sign of the divisor is the one that is never negative, or that and the divisor.
-use Rattle.std.proofs.Common.{◌≡◌, ℕ, zero, suc, ◌+◌, ◌-◌, ◌*◌, ◌/◌, ◌%◌, ◌<◌, true, false, ◌⊎◌, ℤ, pos, negsuc, ◌+ℤ◌, neg_ℤ, nat_abs, Ok, sym, refl, ap, ◌∙◌, inl, inr, ⊎_elim, mod-lt, zero-lt-suc, arith, w32, SFits, of_z}
+use Rattle.std.proofs.Common.{◌≡◌, ℕ, zero, suc, ◌+◌, ◌-◌, ◌*◌, ◌/◌, ◌%◌, ◌<◌, true, false, ◌⊎◌, ℤ, pos, negsuc, ◌+ℤ◌}
+use Rattle.std.proofs.Common.{neg_ℤ, nat_abs, Ok, sym, refl, ap, ◌∙◌, inl, inr, ⊎_elim, mod-lt, zero-lt-suc, arith, w32}
+use Rattle.std.proofs.Common.{SFits, of_z}
 use native.Mathlib.Nat.{div-add-mod, zero-mod}
 use lib.Signed.{lt_z}
 use Rattle.std.specs.Int.{int_rem_euclid}

@@ -1,5 +1,6 @@
 -- Integers of 32 bits: what each function gives, or why it gives nothing, and what the comparisons say.
-use Rattle.std.specs.Prelude.{zero, suc, ◌-◌, ◌%◌, Bool, false, cond, not, ℤ, pos, negsuc, ◌+ℤ◌, ◌-ℤ◌, ◌*ℤ◌, neg_ℤ, Ok, Err, Result, ◌==◌, int_div, int_le, int_lt, nat_le, unsigned_abs}
+use Rattle.std.specs.Prelude.{zero, suc, ◌-◌, ◌%◌, Bool, false, cond, not, ℤ, pos, negsuc, ◌+ℤ◌, ◌-ℤ◌, ◌*ℤ◌, neg_ℤ, Ok}
+use Rattle.std.specs.Prelude.{Err, Result, ◌==◌, int_div, int_le, int_lt, nat_le, unsigned_abs}
 use Rattle.arithmetic.specs.declared.function.ArithmeticFault.{ArithmeticFault}
 use Rattle.arithmetic.specs.declared.function.ArithmeticFault.TheVariants.{ZeroDivisor, Overflow}
 use Rattle.arithmetic.specs.declared.function.Unary.{Unary}

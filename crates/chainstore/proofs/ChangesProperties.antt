@@ -1,5 +1,6 @@
 -- A store after a rule was added, and after one was erased: its facts hold again, and it means what it should.
-use Rattle.std.proofs.Common.{◌≡◌, ℕ, ◌+◌, ◌<◌, true, false, cond, ◌||◌, List, [], ◌∷◌, ◌++◌, length, get_or, set, vec_items, vec_len, sym, refl, ap, ◌∙◌, subst}
+use Rattle.std.proofs.Common.{◌≡◌, ℕ, ◌+◌, ◌<◌, true, false, cond, ◌||◌, List, [], ◌∷◌, ◌++◌, length, get_or, set}
+use Rattle.std.proofs.Common.{vec_items, vec_len, sym, refl, ap, ◌∙◌, subst}
 use Rattle.terms.specs.declared.node.Node.{Node}
 use Rattle.rules.specs.declared.rule.Rule.{Rule}
 use Rattle.rules.specs.Meaning.{is_of, placed, ever_added}

@@ -1,10 +1,14 @@
 -- Rows and rules of entries: one more entry, and an entry that leaves its row.
-use Rattle.std.proofs.Common.{◌≡◌, ℕ, zero, suc, ◌+◌, ◌<◌, ◌≤◌, Bool, true, false, ◌&&◌, ◌||◌, eqb, List, [], ◌∷◌, ◌++◌, length, get_or, take, drop, set, Some, None, sym, refl, ap, ◌∙◌, inl, inr, add-zero, add-suc, suc-add, zero-add, arith}
+use Rattle.std.proofs.Common.{◌≡◌, ℕ, zero, suc, ◌+◌, ◌<◌, ◌≤◌, Bool, true, false, ◌&&◌, ◌||◌, eqb, List, [], ◌∷◌, ◌++◌}
+use Rattle.std.proofs.Common.{length, get_or, take, drop, set, Some, None, sym, refl, ap, ◌∙◌, inl, inr, add-zero}
+use Rattle.std.proofs.Common.{add-suc, suc-add, zero-add, arith}
 use Rattle.std.proofs.lemmas.List.{length-take-le, length-drop, take-append-le, drop-append-le}
-use Rattle.std.proofs.lemmas.Bool.{eqb-true, eq-eqb, ne_eqb, and_parts, and_from, and_left, or_left, or_cases, both_ways, cases_Bool, cond-true, cond-false, cond_both}
+use Rattle.std.proofs.lemmas.Bool.{eqb-true, eq-eqb, ne_eqb, and_parts, and_from, and_left, or_left, or_cases}
+use Rattle.std.proofs.lemmas.Bool.{both_ways, cases_Bool, cond-true, cond-false, cond_both}
 use Rattle.terms.specs.declared.node.Node.{Node}
 use Rattle.rules.specs.Indicators.{is_one}
-use Rattle.rules.specs.Meaning.{Value, End, placed, holds, distinct, without, used, rule_at, is_of, is_of_rule, ever_added}
+use Rattle.rules.specs.Meaning.{Value, End, placed, holds, distinct, without, used, rule_at, is_of, is_of_rule}
+use Rattle.rules.specs.Meaning.{ever_added}
 use Rattle.chainstore.specs.declared.entry.Entry.{Entry}
 use Rattle.chainstore.specs.Entries.{is_live_of, end_of, step_of, row_from, row_of, live_at, rule_of, values_of, laid}
 use Rattle.chainstore.proofs.NextProperties.{holds_placed, distinct_placed, without_absent, without_placed_other}

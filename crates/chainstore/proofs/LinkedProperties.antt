@@ -1,16 +1,20 @@
 -- The rings of all indicators: what an added rule and an erased one leave of them.
-use Rattle.std.proofs.Common.{◌≡◌, ℕ, ◌+◌, ◌<◌, true, false, eqb, ltb, leb, List, [], ◌∷◌, ◌++◌, length, get_or, set, Some, None, Option, sym, refl, ap, ◌∙◌, subst, inl, inr, arith}
-use Rattle.std.proofs.lemmas.Bool.{ltb-true, leb-true, eqb-true, eq-eqb, and_parts, and_from, and_right, both_ways, cases_Bool, cond-true, cond-false}
+use Rattle.std.proofs.Common.{◌≡◌, ℕ, ◌+◌, ◌<◌, true, false, eqb, ltb, leb, List, [], ◌∷◌, ◌++◌, length, get_or, set}
+use Rattle.std.proofs.Common.{Some, None, Option, sym, refl, ap, ◌∙◌, subst, inl, inr, arith}
+use Rattle.std.proofs.lemmas.Bool.{ltb-true, leb-true, eqb-true, eq-eqb, and_parts, and_from, and_right, both_ways}
+use Rattle.std.proofs.lemmas.Bool.{cases_Bool, cond-true, cond-false}
 use Rattle.rules.specs.declared.indicator.Indicator.{Indicator}
 use Rattle.rules.specs.Indicators.{is_one}
 use Rattle.rules.specs.Meaning.{End, front, back, placed, next_in, holds}
 use Rattle.chainstore.specs.declared.entry.Entry.{Entry}
 use Rattle.chainstore.specs.declared.entry.Link.{Link}
 use Rattle.chainstore.specs.Entries.{is_live_of, end_of, row_of, live_at}
-use Rattle.chainstore.specs.Rings.{head_of, cell_of, is_in, backward, after_at, before_at, Inserted, InsertedAt, Bridged}
+use Rattle.chainstore.specs.Rings.{head_of, cell_of, is_in, backward, after_at, before_at, Inserted, InsertedAt}
+use Rattle.chainstore.specs.Rings.{Bridged}
 use Rattle.chainstore.specs.Rings.{Alone}
 use Rattle.chainstore.proofs.NextProperties.{is_in_reverse, is_in_next, is_in_backward, without_absent}
-use Rattle.chainstore.proofs.EntriesProperties.{row_of_push, row_of_erased, distinct_row_of, holds_row_of, live_at_entry}
+use Rattle.chainstore.proofs.EntriesProperties.{row_of_push, row_of_erased, distinct_row_of, holds_row_of}
+use Rattle.chainstore.proofs.EntriesProperties.{live_at_entry}
 use Rattle.chainstore.proofs.EntriesProperties.{live_at_past, live_at_less, live_at_one}
 use Rattle.chainstore.proofs.LinksProperties.{Ring, ring_added, ring_erased, ring_kept}
 

@@ -1,6 +1,8 @@
 -- One ring in both directions: a cell is added at an end, or taken out.
-use Rattle.std.proofs.Common.{◌≡◌, ℕ, ◌+◌, ◌<◌, true, false, not, eqb, List, [], ◌∷◌, ◌++◌, reverse, length, get_or, Some, None, Option, sym, refl, ap, ◌∙◌, subst, inl, inr, arith}
-use Rattle.std.proofs.lemmas.List.{reverse-append, append_assoc, length-append, get_or_append_left, get_or_past, get_or_push}
+use Rattle.std.proofs.Common.{◌≡◌, ℕ, ◌+◌, ◌<◌, true, false, not, eqb, List, [], ◌∷◌, ◌++◌, reverse, length, get_or}
+use Rattle.std.proofs.Common.{Some, None, Option, sym, refl, ap, ◌∙◌, subst, inl, inr, arith}
+use Rattle.std.proofs.lemmas.List.{reverse-append, append_assoc, length-append, get_or_append_left, get_or_past}
+use Rattle.std.proofs.lemmas.List.{get_or_push}
 use Rattle.std.proofs.lemmas.Bool.{eq-eqb, and_parts, not-true, cond-true, or_left, or_right, cases_lt}
 use Rattle.rules.specs.Meaning.{End, front, back, placed, first_of, behind, holds, distinct, without}
 use Rattle.chainstore.specs.declared.entry.Link.{Link}

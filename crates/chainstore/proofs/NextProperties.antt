@@ -1,7 +1,10 @@
 -- Rows of labels: what a row holds, and what stands behind a label when two rows are joined.
-use Rattle.std.proofs.Common.{◌≡◌, ℕ, Bool, true, false, not, ◌||◌, eqb, List, [], ◌∷◌, ◌++◌, reverse, Some, None, Option, sym, refl, ap, ◌∙◌, inl, inr}
+use Rattle.std.proofs.Common.{◌≡◌, ℕ, Bool, true, false, not, ◌||◌, eqb, List, [], ◌∷◌, ◌++◌, reverse, Some, None}
+use Rattle.std.proofs.Common.{Option, sym, refl, ap, ◌∙◌, inl, inr}
 use Rattle.std.proofs.lemmas.List.{reverse-append, reverse-reverse}
-use Rattle.std.proofs.lemmas.Bool.{eqb-true, eq-eqb, ne_eqb, and_parts, and_from, or_from, or_left, or_right, or_parts, or_cases, not-true, not_from_false, both_ways, cases_Bool, cases_eq, cond-true, cond-false}
+use Rattle.std.proofs.lemmas.Bool.{eqb-true, eq-eqb, ne_eqb, and_parts, and_from, or_from, or_left, or_right, or_parts}
+use Rattle.std.proofs.lemmas.Bool.{or_cases, not-true, not_from_false, both_ways, cases_Bool, cases_eq, cond-true}
+use Rattle.std.proofs.lemmas.Bool.{cond-false}
 use Rattle.rules.specs.Meaning.{first_of, behind, next_in, without, holds, distinct, End, front, back, placed}
 use Rattle.chainstore.specs.Rings.{is_in, backward}
 

@@ -1,6 +1,8 @@
 -- One direction of a ring: how it follows a row that grows at an end or loses a label.
-use Rattle.std.proofs.Common.{◌≡◌, ℕ, ◌+◌, ◌<◌, true, false, not, ◌||◌, eqb, List, [], ◌∷◌, ◌++◌, Some, None, Option, sym, refl, ap, ◌∙◌, inl, inr, arith}
-use Rattle.std.proofs.lemmas.Bool.{eq-eqb, ne_eqb, or_cases, or_left, or_right, both_ways, cases_Bool, cases_eq, cond-true, cond-false, and_parts, not-true}
+use Rattle.std.proofs.Common.{◌≡◌, ℕ, ◌+◌, ◌<◌, true, false, not, ◌||◌, eqb, List, [], ◌∷◌, ◌++◌, Some, None, Option}
+use Rattle.std.proofs.Common.{sym, refl, ap, ◌∙◌, inl, inr, arith}
+use Rattle.std.proofs.lemmas.Bool.{eq-eqb, ne_eqb, or_cases, or_left, or_right, both_ways, cases_Bool, cases_eq}
+use Rattle.std.proofs.lemmas.Bool.{cond-true, cond-false, and_parts, not-true}
 use Rattle.rules.specs.Meaning.{first_of, behind, next_in, holds, distinct}
 use Rattle.chainstore.specs.Rings.{cell_of, is_in}
 use Rattle.chainstore.proofs.NextProperties.{or_second, holds_append, last_of, behind_skip, join_last, join_other}

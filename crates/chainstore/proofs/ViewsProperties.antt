@@ -1,7 +1,10 @@
 -- What a store means: it is lawful, and what an added rule and an erased one leave.
-use Rattle.std.proofs.Common.{◌≡◌, ℕ, ◌+◌, ◌-◌, ◌<◌, ◌≤◌, Bool, true, false, ◌||◌, eqb, ltb, leb, List, [], ◌∷◌, ◌++◌, length, get_or, take, drop, set, replicate, Some, None, vec_items, vec_len, Option, sym, refl, ap, ◌∙◌, inl, inr, arith}
+use Rattle.std.proofs.Common.{◌≡◌, ℕ, ◌+◌, ◌-◌, ◌<◌, ◌≤◌, Bool, true, false, ◌||◌, eqb, ltb, leb, List, [], ◌∷◌, ◌++◌}
+use Rattle.std.proofs.Common.{length, get_or, take, drop, set, replicate, Some, None, vec_items, vec_len, Option, sym}
+use Rattle.std.proofs.Common.{refl, ap, ◌∙◌, inl, inr, arith}
 use Rattle.std.proofs.lemmas.List.{drop_at, take_all, get_or-set_same, get_or-set_other, get_or-replicate}
-use Rattle.std.proofs.lemmas.Bool.{eqb-true, and_parts, or_left, cases_Bool, cases_eq, cond-true, cond-false, lt-ltb, le-ltb, le-leb, lt-leb, or_right, or_from}
+use Rattle.std.proofs.lemmas.Bool.{eqb-true, and_parts, or_left, cases_Bool, cases_eq, cond-true, cond-false, lt-ltb}
+use Rattle.std.proofs.lemmas.Bool.{le-ltb, le-leb, lt-leb, or_right, or_from}
 use Rattle.terms.specs.declared.node.Node.{Node}
 use Rattle.rules.specs.declared.indicator.Indicator.{Indicator}
 use Rattle.rules.specs.Indicators.{is_one}

@@ -1,5 +1,6 @@
 -- Rings of cells: 4,608 heads, one for each indicator, and behind them a cell for each label.
-use Rattle.std.specs.Prelude.{◌≡◌, ℕ, ◌+◌, ◌-◌, ◌*◌, ◌<◌, Bool, true, cond, List, reverse, length, Some, None, Option, ◌≢◌, nat_lt, slice_index_or}
+use Rattle.std.specs.Prelude.{◌≡◌, ℕ, ◌+◌, ◌-◌, ◌*◌, ◌<◌, Bool, true, cond, List, reverse, length, Some, None, Option}
+use Rattle.std.specs.Prelude.{◌≢◌, nat_lt, slice_index_or}
 use Rattle.rules.specs.Meaning.{End, front, back, holds, next_in}
 use Rattle.chainstore.specs.declared.entry.Link.{Link}
 
@@ -41,10 +42,10 @@ besides back ls h = before_at ls h
 pub record Inserted (ls : List Link) (p q : ℕ) (ms : List Link) : Type 0 where
   pub after_new : after_at ms (length ls) ≡ q
   pub after_before : after_at ms p ≡ length ls
-  pub after_others : (k : ℕ) → (k ≢ p) → (k ≢ length ls) → after_at ms k ≡ after_at ls k
+  pub after_others : (k : ℕ) → k ≢ p → k ≢ length ls → after_at ms k ≡ after_at ls k
   pub before_new : before_at ms (length ls) ≡ p
   pub before_after : before_at ms q ≡ length ls
-  pub before_others : (k : ℕ) → (k ≢ q) → (k ≢ length ls) → before_at ms k ≡ before_at ls k
+  pub before_others : (k : ℕ) → k ≢ q → k ≢ length ls → before_at ms k ≡ before_at ls k
 
 abbrev pub InsertedAt : End → List Link → ℕ → List Link → Type 0
 InsertedAt front ls h ms = Inserted ls h (after_at ls h) ms
@@ -53,9 +54,9 @@ InsertedAt back ls h ms = Inserted ls (before_at ls h) h ms
 -- p and q are neighbours
 pub record Bridged (ls : List Link) (p q : ℕ) (ms : List Link) : Type 0 where
   pub after_before : after_at ms p ≡ q
-  pub after_others : (k : ℕ) → (k ≢ p) → after_at ms k ≡ after_at ls k
+  pub after_others : (k : ℕ) → k ≢ p → after_at ms k ≡ after_at ls k
   pub before_after : before_at ms q ≡ p
-  pub before_others : (k : ℕ) → (k ≢ q) → before_at ms k ≡ before_at ls k
+  pub before_others : (k : ℕ) → k ≢ q → before_at ms k ≡ before_at ls k
 
 -- each of the first n cells is alone in its ring
 pub record Alone (n : ℕ) (ls : List Link) : Type 0 where

@@ -1,5 +1,6 @@
 -- A rule is written piece by piece: all of it, or it is longer than the line.
-use Rattle.std.proofs.Common.{◌≡◌, ℕ, ◌+◌, ◌<◌, true, false, List, [], ◌++◌, length, is_err, Ok, Err, Result, sym, ap, ◌∙◌, append-nil, arith, length-append, leb-false}
+use Rattle.std.proofs.Common.{◌≡◌, ℕ, ◌+◌, ◌<◌, true, false, List, [], ◌++◌, length, is_err, Ok, Err, Result, sym, ap}
+use Rattle.std.proofs.Common.{◌∙◌, append-nil, arith, length-append, leb-false}
 use Rattle.tokens.proofs.BytesProperties.{false_true}
 use Rattle.writer.specs.declared.fault.DoesNotFit.{DoesNotFit}
 use Rattle.writer.specs.declared.line.LineWriter.{LineWriter}

@@ -1,5 +1,8 @@
 -- One byte more of a line: what is kept of it, and where its first bad byte stands.
-use Rattle.std.proofs.Common.{◌≡◌, ℕ, zero, suc, ◌+◌, ◌<◌, ◌≤◌, Bool, true, false, cond, ltb, leb, List, [], ◌∷◌, ◌++◌, length, get_or, drop, Some, None, Option, sym, refl, ap, ◌∙◌, add-one, arith, length-append, length-take, take_all, drop-cons, ltb-false, le-ltb, lt-ltb, leb-false, leb-true}
+use Rattle.std.proofs.Common.{◌≡◌, ℕ, zero, suc, ◌+◌, ◌<◌, ◌≤◌, Bool, true, false, cond, ltb, leb, List, [], ◌∷◌, ◌++◌}
+use Rattle.std.proofs.Common.{length, get_or, drop, Some, None, Option, sym, refl, ap, ◌∙◌, add-one, arith}
+use Rattle.std.proofs.Common.{length-append, length-take, take_all, drop-cons, ltb-false, le-ltb, lt-ltb, leb-false}
+use Rattle.std.proofs.Common.{leb-true}
 use lib.Seq.{take-append-le}
 use Rattle.checking.specs.declared.line.LineProblem.TheVariants.{BadByte, TooLong}
 use Rattle.checking.specs.Lines.{first_after, first_from, bad_from, is_bad, problem_of, Keeps}

@@ -1,5 +1,6 @@
 -- What checking a line answers, and how a rule is written.
-use Rattle.std.specs.Prelude.{◌≡◌, ℕ, ◌<◌, Bool, false, cond, ◌&&◌, List, [], ◌++◌, length, Some, None, Ok, Err, codes, Option, Result, ◌==◌, slice_index_or}
+use Rattle.std.specs.Prelude.{◌≡◌, ℕ, ◌<◌, Bool, false, cond, ◌&&◌, List, [], ◌++◌, length, Some, None, Ok, Err, codes}
+use Rattle.std.specs.Prelude.{Option, Result, ◌==◌, slice_index_or}
 use Rattle.tokens.specs.Bytes.{same}
 use Rattle.terms.specs.declared.node.Node.{Node}
 use Rattle.terms.specs.declared.node.Node.TheVariants.{Var, Int, App}

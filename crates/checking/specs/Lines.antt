@@ -1,5 +1,6 @@
 -- Lines of input: which are skipped, which are refused whatever they say, and what is kept of a line.
-use Rattle.std.specs.Prelude.{◌≡◌, ℕ, ◌+◌, Bool, true, false, cond, ◌||◌, List, [], ◌∷◌, length, take, Some, None, Option, ◌==◌, nat_lt}
+use Rattle.std.specs.Prelude.{◌≡◌, ℕ, ◌+◌, Bool, true, false, cond, ◌||◌, List, [], ◌∷◌, length, take, Some, None}
+use Rattle.std.specs.Prelude.{Option, ◌==◌, nat_lt}
 use Rattle.checking.specs.declared.line.LineProblem.{LineProblem}
 use Rattle.checking.specs.declared.line.LineProblem.TheVariants.{BadByte, TooLong}
 

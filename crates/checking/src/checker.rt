@@ -54,7 +54,9 @@ impl RuleChecker {
 
     // The rule that the line is, or why it is refused; a refused line leaves the names as they were.
     pub fn check(&mut self, line: &LineBuffer) -> Result<RuleText, Refusal>
-        ensures { (s : List ℕ) → Keeps line.now.bytes.items line.now.long line.now.first s → Checked (list self.old.names) s (list self.new.names) (row_nodes self.new.row) (reader_spans self.new.reader) result }
+        ensures { (s : List ℕ) → Keeps line.now.bytes.items line.now.long line.now.first s
+            → Checked (list self.old.names) s (list self.new.names) (row_nodes self.new.row)
+            (reader_spans self.new.reader) result }
     {
         if let Some(problem) = line.problem() {
             return Err(Refusal::Line(problem));

@@ -49,7 +49,8 @@ impl LineBuffer {
 
     // One byte more: whatever line was kept, it is kept with this byte behind it.
     pub fn push(&mut self, byte: u8)
-        ensures { (s : List ℕ) → Keeps self.old.bytes.items self.old.long self.old.first s → Keeps self.new.bytes.items self.new.long self.new.first (s ++ byte ∷ []) }
+        ensures { (s : List ℕ) → Keeps self.old.bytes.items self.old.long self.old.first s
+            → Keeps self.new.bytes.items self.new.long self.new.first (s ++ byte ∷ []) }
     {
         self.first = first_after(self.first, byte);
         if self.bytes.len() < MAX_LINE {

@@ -1,7 +1,8 @@
 //! Why a line is refused: the number, the place and kind of a fault of the grammar, and a sentence for the owner.
 
 ghost use Rattle.std.specs.Prelude.{◌≡◌};
-ghost use Rattle.checking.specs.Refusals.{number_of, fault_of, word_of, sentence_of, line_sentence, grammar_sentence, limit_sentence, head_sentence, grammar_fault};
+ghost use Rattle.checking.specs.Refusals.{number_of, fault_of, word_of, sentence_of, line_sentence, grammar_sentence};
+ghost use Rattle.checking.specs.Refusals.{limit_sentence, head_sentence, grammar_fault};
 ghost use Rattle.checking.specs.declared.refusal.Refusal.TheVariants.{Line as of_line, Text as of_text};
 
 use crate::line::LineProblem;

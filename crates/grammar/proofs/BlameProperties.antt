@@ -1,6 +1,7 @@
 -- Which kind of fault a text has, by the bytes u that could be read and the byte c that could not stand behind them:
 -- what the definitions of fault kinds ask of the front of the text is asked of u and c.
-use Rattle.std.proofs.Common.{◌≡◌, ℕ, suc, ◌+◌, ◌-◌, true, false, List, [], ◌∷◌, ◌++◌, length, take, drop, sym, refl, ap, ◌∙◌, subst, inl, inr, append_assoc, arith, length-append}
+use Rattle.std.proofs.Common.{◌≡◌, ℕ, suc, ◌+◌, ◌-◌, true, false, List, [], ◌∷◌, ◌++◌, length, take, drop, sym, refl}
+use Rattle.std.proofs.Common.{ap, ◌∙◌, subst, inl, inr, append_assoc, arith, length-append}
 use lib.Seq.{drop-length, drop-append_seam}
 use Rattle.tokens.specs.Token.{IsRow, scan, joined, nothing, endless}
 use Rattle.grammar.specs.Faults.{NoRow, Unclosed, inside_quote}

@@ -1,11 +1,13 @@
 -- The machine counts brackets as the bytes do: behind the bytes that it has taken, the brackets still allowed and
 -- those that stand open outside quoted names are together as many as may be open.
-use Rattle.std.proofs.Common.{◌≡◌, ℕ, ◌+◌, Bool, true, false, cond, List, [], ◌∷◌, is_some, Some, None, Option, sym, refl, ap, ◌∙◌, subst, arith}
+use Rattle.std.proofs.Common.{◌≡◌, ℕ, ◌+◌, Bool, true, false, cond, List, [], ◌∷◌, is_some, Some, None, Option, sym}
+use Rattle.std.proofs.Common.{refl, ap, ◌∙◌, subst, arith}
 use Rattle.tokens.specs.Bytes.{space}
 use Rattle.tokens.specs.Token.{Token, Part, small_run, capital_run, digits, symbols, inside, closed, single}
 use Rattle.tokens.specs.Token.{Edge, first, spaced, joined, may_part, start, advance, ended, run}
 use Rattle.grammar.specs.Grammar.{brackets, Goal, a_rule, a_query}
-use Rattle.grammar.specs.Machine.{Lex, edge, within, at, State, hope, check, enter_by, enter, feed_maybe, fresh, step_by}
+use Rattle.grammar.specs.Machine.{Lex, edge, within, at, State, hope, check, enter_by, enter, feed_maybe, fresh}
+use Rattle.grammar.specs.Machine.{step_by}
 use Rattle.grammar.specs.Machine.{step, allowed_by, allowed_at}
 use Rattle.grammar.specs.Sentences.{Place, feed, allowed, sentences, begin}
 use Rattle.grammar.specs.Faults.{open_from, open_brackets}

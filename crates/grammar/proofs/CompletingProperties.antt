@@ -1,5 +1,6 @@
 -- The reader of rules and queries is lawful: above all, some bytes complete whatever it has taken so far.
-use Rattle.std.proofs.Common.{◌≡◌, ℕ, Bool, true, false, cond, ◌&&◌, eqb, List, [], ◌∷◌, ◌++◌, is_some, Some, None, Option, sym, refl, ap, ◌∙◌, subst, arith, eqb-true}
+use Rattle.std.proofs.Common.{◌≡◌, ℕ, Bool, true, false, cond, ◌&&◌, eqb, List, [], ◌∷◌, ◌++◌, is_some, Some, None}
+use Rattle.std.proofs.Common.{Option, sym, refl, ap, ◌∙◌, subst, arith, eqb-true}
 use Rattle.tokens.specs.Bytes.{same, begins}
 use Rattle.tokens.specs.Token.{Token, name, variable, integer, neck, Part, small_run, capital_run, digits, symbols}
 use Rattle.tokens.specs.Token.{inside, closed, single, Edge, joined, neck_bytes, minus_bytes, ended}

@@ -6,7 +6,8 @@ use Rattle.grammar.specs.Written.{Written, Writtens, app, nil, cons}
 use Rattle.grammar.specs.Grammar.{brackets}
 use Rattle.grammar.specs.Sentences.{Context, head, among, tail, Holder, body, goals, arguments, round, square, Place}
 use Rattle.grammar.specs.Sentences.{operand, named, after, done}
-use Rattle.grammar.specs.Sentences.{bracket, at_neck, at_comma, closing_in, at_closing, right_in, at_right, at_empty, bar_in}
+use Rattle.grammar.specs.Sentences.{bracket, at_neck, at_comma, closing_in, at_closing, right_in, at_right, at_empty}
+use Rattle.grammar.specs.Sentences.{bar_in}
 use Rattle.grammar.specs.Sentences.{at_bar, stop_in, at_stop, after_term, at_operand, feed, allowed}
 
 abbrev mutual

@@ -1,6 +1,7 @@
 -- The reader that takes every token: it is lawful, so it reads exactly the rows of tokens. Any other reader goes on
 -- only as this one does, so it shows whether a row of tokens can have the byte at which another reader stops.
-use Rattle.std.proofs.Common.{◌≡◌, ℕ, Bool, true, false, cond, List, [], ◌∷◌, ◌++◌, is_some, Some, None, Option, sym, refl, ap, ◌∙◌, subst}
+use Rattle.std.proofs.Common.{◌≡◌, ℕ, Bool, true, false, cond, List, [], ◌∷◌, ◌++◌, is_some, Some, None, Option, sym}
+use Rattle.std.proofs.Common.{refl, ap, ◌∙◌, subst}
 use Rattle.tokens.specs.declared.kind.Kind.TheVariants.{Stray}
 use Rattle.tokens.specs.Bytes.{class, space, quote}
 use Rattle.tokens.specs.Token.{Token, Part, small_run, capital_run, digits, symbols, inside, closed, single, Edge}

@@ -1,11 +1,13 @@
 -- Where the machine of bytes is stuck: what it took can be completed, and with the next byte nothing can.
 -- It keeps hope along its steps, and what is hoped for can be completed.
-use Rattle.std.proofs.Common.{◌≡◌, ℕ, Bool, true, false, cond, ◌&&◌, List, [], ◌∷◌, ◌++◌, Some, None, Option, sym, refl, ap, ◌∙◌, subst, arith}
+use Rattle.std.proofs.Common.{◌≡◌, ℕ, Bool, true, false, cond, ◌&&◌, List, [], ◌∷◌, ◌++◌, Some, None, Option, sym, refl}
+use Rattle.std.proofs.Common.{ap, ◌∙◌, subst, arith}
 use Rattle.tokens.specs.Bytes.{space}
 use Rattle.tokens.specs.Token.{Part, Edge, spaced, joined, may_part, start, advance, ended}
 use Rattle.grammar.specs.Machine.{Parser, Lex, edge, within, at, good, bad, State, Verdict, hope}
 use Rattle.grammar.specs.Machine.{check}
-use Rattle.grammar.specs.Machine.{enter_by, enter, feed_maybe, fresh, step_by, step, allowed_by, allowed_at, finished_by}
+use Rattle.grammar.specs.Machine.{enter_by, enter, feed_maybe, fresh, step_by, step, allowed_by, allowed_at}
+use Rattle.grammar.specs.Machine.{finished_by}
 use Rattle.grammar.specs.Machine.{finished, finish, or_bad, verdict}
 use Rattle.grammar.specs.Laws.{Lawful}
 use Rattle.grammar.proofs.LexingProperties.{bad_is_not_good, and_true_both, and_true_left, and_true_right}

@@ -1,6 +1,7 @@
 -- Whole tokens at once: from inside a token the machine goes on as behind the token that `scan_from` finds there,
 -- for any lawful reader of tokens. The only cases by the shape of a token are in "what is taken was hoped for".
-use Rattle.std.proofs.Common.{◌≡◌, ℕ, Bool, true, false, cond, ◌&&◌, ◌||◌, eqb, List, [], ◌∷◌, ◌++◌, is_some, Some, None, Option, sym, refl, ◌∙◌, arith}
+use Rattle.std.proofs.Common.{◌≡◌, ℕ, Bool, true, false, cond, ◌&&◌, ◌||◌, eqb, List, [], ◌∷◌, ◌++◌, is_some, Some}
+use Rattle.std.proofs.Common.{None, Option, sym, refl, ◌∙◌, arith}
 use Rattle.tokens.specs.Bytes.{word, digit, symbol, quote, same, begins}
 use Rattle.tokens.specs.Token.{Token, name, variable, integer, neck, Part, small_run, capital_run, digits, symbols}
 use Rattle.tokens.specs.Token.{inside, closed, single}
@@ -8,7 +9,8 @@ use Rattle.tokens.specs.Token.{joined, neck_bytes, minus_bytes, advance, ended, 
 use Rattle.tokens.specs.Token.{got, scanned, or_else, scan_from}
 use Rattle.grammar.specs.Machine.{Parser, Lex, within, StateOf, at, VerdictOf, good, bad, Verdict, takes}
 use Rattle.grammar.specs.Machine.{hope_within, check, enter, enter_by}
-use Rattle.grammar.specs.Machine.{feed_maybe, fresh, step_by, allowed_at, finished_by, finished, or_bad, verdict, onward}
+use Rattle.grammar.specs.Machine.{feed_maybe, fresh, step_by, allowed_at, finished_by, finished, or_bad, verdict}
+use Rattle.grammar.specs.Machine.{onward}
 use Rattle.grammar.specs.Laws.{Lawful}
 
 pub false_is_not_true : {A : Type 0} → false ≡ true → A

@@ -1,14 +1,17 @@
 -- Behind a name: a bracket that follows directly holds its arguments; else the name is a whole term.
-use Rattle.std.proofs.Common.{◌≡◌, ℕ, Bool, true, false, cond, ◌&&◌, List, [], ◌∷◌, ◌++◌, Some, None, Option, sym, refl, ap, ◌∙◌, arith}
+use Rattle.std.proofs.Common.{◌≡◌, ℕ, Bool, true, false, cond, ◌&&◌, List, [], ◌∷◌, ◌++◌, Some, None, Option, sym, refl}
+use Rattle.std.proofs.Common.{ap, ◌∙◌, arith}
 use Rattle.tokens.specs.declared.kind.Kind.{Kind}
 use Rattle.tokens.specs.declared.kind.Kind.TheVariants.{Small, Capital, Digit, Symbol, Solo, Quote, Opening}
 use Rattle.tokens.specs.declared.kind.Kind.TheVariants.{Closing, Left, Right, Bar, Comma, Stop, Space, Stray}
 use Rattle.tokens.specs.Bytes.{class, space, digit, symbol, same}
-use Rattle.tokens.specs.Token.{Token, name, neck, opening, closing, right, bar, comma, stop, run, neck_bytes, minus_bytes}
+use Rattle.tokens.specs.Token.{Token, name, neck, opening, closing, right, bar, comma, stop, run, neck_bytes}
+use Rattle.tokens.specs.Token.{minus_bytes}
 use Rattle.tokens.specs.Token.{Part, digits, symbols, single, Edge, spaced, joined, is_joined, may_part}
 use Rattle.tokens.specs.Scanning.{head_kind}
 use Rattle.grammar.specs.Written.{app, nil, Sentence}
-use Rattle.grammar.specs.Machine.{Lex, edge, within, at, VerdictOf, bad, hope, check, fresh, step_by, allowed_by, allowed_at}
+use Rattle.grammar.specs.Machine.{Lex, edge, within, at, VerdictOf, bad, hope, check, fresh, step_by, allowed_by}
+use Rattle.grammar.specs.Machine.{allowed_at}
 use Rattle.grammar.specs.Machine.{finished, verdict, onward}
 use Rattle.grammar.specs.Sentences.{Context, arguments, Place, named, after, bracket, feed, sentences}
 use Rattle.grammar.specs.Places.{taken_or, tail_of}

@@ -1,11 +1,14 @@
 -- From one place to the next: where a term must begin, behind a term, at the first byte, and when all has been read.
-use Rattle.std.proofs.Common.{◌≡◌, ℕ, Bool, true, false, cond, ◌&&◌, List, [], ◌∷◌, ◌++◌, Some, None, Option, sym, refl, ap, ◌∙◌, arith}
+use Rattle.std.proofs.Common.{◌≡◌, ℕ, Bool, true, false, cond, ◌&&◌, List, [], ◌∷◌, ◌++◌, Some, None, Option, sym, refl}
+use Rattle.std.proofs.Common.{ap, ◌∙◌, arith}
 use Rattle.tokens.specs.declared.kind.Kind.{Kind}
 use Rattle.tokens.specs.declared.kind.Kind.TheVariants.{Small, Capital, Digit, Symbol, Solo, Quote, Opening}
 use Rattle.tokens.specs.declared.kind.Kind.TheVariants.{Closing, Left, Right, Bar, Comma, Stop, Space, Stray}
 use Rattle.tokens.specs.Bytes.{class, space, past, word, digit, symbol, quote, same}
-use Rattle.tokens.specs.Token.{Token, name, neck, opening, closing, left, right, bar, comma, stop, run, neck_bytes, minus_bytes}
-use Rattle.tokens.specs.Token.{Part, small_run, capital_run, digits, symbols, inside, closed, single, first, spaced, joined}
+use Rattle.tokens.specs.Token.{Token, name, neck, opening, closing, left, right, bar, comma, stop, run, neck_bytes}
+use Rattle.tokens.specs.Token.{minus_bytes}
+use Rattle.tokens.specs.Token.{Part, small_run, capital_run, digits, symbols, inside, closed, single, first, spaced}
+use Rattle.tokens.specs.Token.{joined}
 use Rattle.tokens.specs.Token.{start_as, ended, nothing, got, scanned, or_else, scan_from, scan}
 use Rattle.tokens.specs.Scanning.{head_kind}
 use Rattle.tokens.proofs.ScanningProperties.{scan_single}

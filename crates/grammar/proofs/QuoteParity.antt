@@ -1,12 +1,14 @@
 -- Quotes outside and inside: behind a whole token no quoted name is open, and behind an endless one it is.
-use Rattle.std.proofs.Common.{◌≡◌, ℕ, Bool, true, false, cond, not, ◌&&◌, List, [], ◌∷◌, ◌++◌, Some, None, Option, sym, refl, ap, ◌∙◌}
+use Rattle.std.proofs.Common.{◌≡◌, ℕ, Bool, true, false, cond, not, ◌&&◌, List, [], ◌∷◌, ◌++◌, Some, None, Option, sym}
+use Rattle.std.proofs.Common.{refl, ap, ◌∙◌}
 use Rattle.std.proofs.lemmas.Bool.{eqb-true}
 use Rattle.tokens.specs.declared.kind.Kind.{Kind}
 use Rattle.tokens.specs.declared.kind.Kind.TheVariants.{Small, Capital, Digit, Symbol, Solo, Quote, Opening}
 use Rattle.tokens.specs.declared.kind.Kind.TheVariants.{Closing, Left, Right, Bar, Comma, Stop, Space, Stray}
 use Rattle.tokens.specs.Bytes.{class, space, past, longest, word, digit, symbol, quote, same}
 use Rattle.tokens.specs.Token.{Token, name, run, opening, closing, left, right, bar, comma, stop, minus_bytes}
-use Rattle.tokens.specs.Token.{Part, small_run, capital_run, digits, symbols, inside, closed, single, Edge, joined, is_joined}
+use Rattle.tokens.specs.Token.{Part, small_run, capital_run, digits, symbols, inside, closed, single, Edge, joined}
+use Rattle.tokens.specs.Token.{is_joined}
 use Rattle.tokens.specs.Token.{start_as, Scan, nothing, endless, got, or_else, scan_from, scan}
 use Rattle.tokens.specs.Scanning.{head_kind, digit_at}
 use Rattle.tokens.proofs.ScanningProperties.{scan_single, scan_small, scan_capital, scan_digits, scan_symbols}

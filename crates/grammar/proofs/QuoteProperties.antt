@@ -1,6 +1,7 @@
 -- The machine is inside a quoted name exactly if the bytes that it has taken end inside one, whatever reader of tokens
 -- it stands above.
-use Rattle.std.proofs.Common.{◌≡◌, ℕ, Bool, true, false, cond, not, ◌&&◌, List, [], ◌∷◌, ◌++◌, Some, None, Option, sym, refl, ap, ◌∙◌, subst}
+use Rattle.std.proofs.Common.{◌≡◌, ℕ, Bool, true, false, cond, not, ◌&&◌, List, [], ◌∷◌, ◌++◌, Some, None, Option, sym}
+use Rattle.std.proofs.Common.{refl, ap, ◌∙◌, subst}
 use Rattle.tokens.specs.declared.kind.Kind.{Kind}
 use Rattle.tokens.specs.Bytes.{digit, symbol, quote, space, word, same}
 use Rattle.tokens.specs.Token.{Token, Part, small_run, capital_run, digits, symbols, inside, closed, single, Edge}
@@ -12,7 +13,8 @@ use Rattle.grammar.proofs.LexingProperties.{and_true_right}
 use Rattle.grammar.proofs.RowProperties.{none_is_not_some}
 use Rattle.grammar.proofs.LeastProperties.{Leads, here, on}
 use Rattle.grammar.proofs.OpenProperties.{in_quote, Plain, OtherKind, o_small, o_capital, o_digit, o_symbol, o_solo}
-use Rattle.grammar.proofs.OpenProperties.{o_bar, o_comma, o_stop, o_space, o_stray, plain_kind, ByteCase, a_quote, an_opening}
+use Rattle.grammar.proofs.OpenProperties.{o_bar, o_comma, o_stop, o_space, o_stray, plain_kind, ByteCase, a_quote}
+use Rattle.grammar.proofs.OpenProperties.{an_opening}
 use Rattle.grammar.proofs.OpenProperties.{a_left, a_closing, a_right, a_plain, byte_case, word_plain, digit_plain}
 use Rattle.grammar.proofs.OpenProperties.{symbol_plain, space_plain}
 

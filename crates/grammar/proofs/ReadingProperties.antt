@@ -1,6 +1,7 @@
 -- The reader of bytes is right about every text: what it reads is what the grammar has there, and where it stops is
 -- the least place where no text goes on, with the brackets open there.
-use Rattle.std.proofs.Common.{◌≡◌, ℕ, suc, ◌+◌, ◌-◌, ◌≤◌, List, [], ◌∷◌, ◌++◌, length, take, sym, refl, ap, ◌∙◌, subst, append_assoc, append-nil, arith, length-append}
+use Rattle.std.proofs.Common.{◌≡◌, ℕ, suc, ◌+◌, ◌-◌, ◌≤◌, List, [], ◌∷◌, ◌++◌, length, take, sym, refl, ap, ◌∙◌, subst}
+use Rattle.std.proofs.Common.{append_assoc, append-nil, arith, length-append}
 use lib.Seq.{take-append_seam}
 use Rattle.tokens.specs.Token.{first}
 use Rattle.grammar.specs.Written.{Sentence}

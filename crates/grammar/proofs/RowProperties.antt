@@ -1,6 +1,7 @@
 -- The machine of bytes reads exactly the rows of tokens that its reader of tokens takes,
 -- for any lawful reader of tokens.
-use Rattle.std.proofs.Common.{◌≡◌, ℕ, zero, suc, ◌≤◌, Bool, true, false, cond, List, [], ◌∷◌, length, is_some, Some, None, Option, sym, refl, ap, ◌∙◌, subst, arith, eqb-true}
+use Rattle.std.proofs.Common.{◌≡◌, ℕ, zero, suc, ◌≤◌, Bool, true, false, cond, List, [], ◌∷◌, length, is_some, Some}
+use Rattle.std.proofs.Common.{None, Option, sym, refl, ap, ◌∙◌, subst, arith, eqb-true}
 use Rattle.tokens.specs.Bytes.{space}
 use Rattle.tokens.specs.Token.{Token, Part, Edge, spaced, joined, may_part, start, advance, ended, Scan, nothing}
 use Rattle.tokens.specs.Token.{endless, got}

@@ -4,7 +4,8 @@ use Rattle.std.proofs.Common.{◌≡◌, ℕ, suc, Bool, true, List, [], ◌∷�
 use Rattle.tokens.specs.Token.{Token, name, neck, opening, closing, left, right, bar, comma, stop}
 use Rattle.grammar.specs.Written.{Written, Writtens, app, nil, cons, join, with_last, conj, list_of, empty_list}
 use Rattle.grammar.specs.Written.{Sentence, fact, rule, query}
-use Rattle.grammar.specs.Grammar.{TermAt, a_name, with_arguments, in_brackets, empty_brackets, list, list_before, TermsAt}
+use Rattle.grammar.specs.Grammar.{TermAt, a_name, with_arguments, in_brackets, empty_brackets, list, list_before}
+use Rattle.grammar.specs.Grammar.{TermsAt}
 use Rattle.grammar.specs.Grammar.{one, more}
 use Rattle.grammar.specs.Sentences.{Context, head, among, tail, Holder, body, goals, arguments, round, square, Place}
 use Rattle.grammar.specs.Sentences.{operand, named, after, done}

@@ -1,5 +1,6 @@
 -- Where a text that is no rule or query first goes wrong, and which kind of fault that is.
-use Rattle.std.specs.Prelude.{◌≡◌, ℕ, suc, ◌+◌, ◌-◌, ◌<◌, ◌≤◌, Bool, true, false, cond, not, ◌||◌, ◌⊎◌, List, [], ◌∷◌, ◌++◌, length, take, drop, ◌==◌}
+use Rattle.std.specs.Prelude.{◌≡◌, ℕ, suc, ◌+◌, ◌-◌, ◌<◌, ◌≤◌, Bool, true, false, cond, not, ◌||◌, ◌⊎◌, List, [], ◌∷◌}
+use Rattle.std.specs.Prelude.{◌++◌, length, take, drop, ◌==◌}
 use Rattle.tokens.specs.Bytes.{quote}
 use Rattle.tokens.specs.Token.{IsRow, scan, joined, endless}
 use Rattle.grammar.specs.Written.{Sentence}

@@ -1,7 +1,9 @@
 -- A reader that takes byte by byte and stops at the first byte that no text could have there, over any reader of tokens.
 use Rattle.std.specs.Prelude.{ℕ, Bool, cond, ◌&&◌, ◌||◌, List, [], ◌∷◌, is_some, Some, None, Option}
 use Rattle.tokens.specs.Bytes.{space, begins}
-use Rattle.tokens.specs.Token.{Token, name, variable, integer, neck, Part, small_run, capital_run, digits, symbols, inside, closed, single, Edge, spaced, joined, may_part, start, advance, ended, neck_bytes}
+use Rattle.tokens.specs.Token.{Token, name, variable, integer, neck, Part, small_run, capital_run, digits, symbols}
+use Rattle.tokens.specs.Token.{inside, closed, single, Edge, spaced, joined, may_part, start, advance, ended}
+use Rattle.tokens.specs.Token.{neck_bytes}
 
 -- A reader of tokens: its places, what a token makes of a place, whether some token can still be taken, what has been read
 -- if the tokens end here, and how many more brackets may be opened here.

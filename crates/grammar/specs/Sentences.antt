@@ -1,7 +1,8 @@
 -- The reader of tokens for rules and queries: what is open around the place, and what a token makes of it.
 use Rattle.std.specs.Prelude.{ℕ, zero, suc, Bool, true, false, List, Some, None, Option}
 use Rattle.tokens.specs.Token.{Token, name, variable, integer, neck, opening, closing, left, right, bar, comma, stop}
-use Rattle.grammar.specs.Written.{Written, Writtens, var, int, app, nil, cons, with_last, conj, list_of, empty_list, Sentence, fact, rule, query}
+use Rattle.grammar.specs.Written.{Written, Writtens, var, int, app, nil, cons, with_last, conj, list_of, empty_list}
+use Rattle.grammar.specs.Written.{Sentence, fact, rule, query}
 use Rattle.grammar.specs.Grammar.{brackets, Goal, a_rule, a_query}
 use Rattle.grammar.specs.Machine.{Parser}
 
@@ -160,7 +161,15 @@ allowed (after t n x) = n
 allowed (done s) = brackets
 
 abbrev pub sentences : Parser
-sentences = record { Place = Place; Result = Sentence; feed = feed; is_open_ended = open_ended; result = result; allowed = allowed }
+sentences = record {
+  Place =
+      Place;
+  Result = Sentence;
+  feed = feed;
+  is_open_ended = open_ended;
+  result = result;
+  allowed = allowed;
+}
 
 -- where a text begins
 abbrev pub begin : Goal → Place

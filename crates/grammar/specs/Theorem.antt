@@ -20,13 +20,15 @@ pub data RowGoesOn (u : List ℕ) (c : ℕ) : Type 0 where
 pub record StopsAt (u : List ℕ) (c : ℕ) : Type 0 where
   pub stray : class c ≡ Stray → (w : List ℕ) → IsRow (u ++ c ∷ w) → ⊥
   pub space_first : u ≡ [] → space c ≡ true → (w : List ℕ) → IsRow (u ++ c ∷ w) → ⊥
-  pub otherwise : (class c ≢ Stray) → (u ≡ [] → space c ≢ true) → RowGoesOn u c
+  pub otherwise : class c ≢ Stray → (u ≡ [] → space c ≢ true) → RowGoesOn u c
 
 -- what a verdict says of the text
 pub data Judged (g : Goal) (s : List ℕ) : VerdictOf Sentence → Type 0 where
   reads : {x : Sentence} → Text g s x → Judged g s (good x)
   fails_at_end : {n : ℕ} → Fails g s (suc (length s)) → n + open_brackets s ≡ brackets → Judged g s (bad n [])
-  fails_at : {n : ℕ} {u : List ℕ} {c : ℕ} {r : List ℕ} → s ≡ u ++ c ∷ r → Fails g s (suc (length u)) → n + open_brackets u ≡ brackets → StopsAt u c → Judged g s (bad n (c ∷ r))
+  fails_at : {n : ℕ} {u : List ℕ} {c : ℕ} {r : List ℕ}
+      → s ≡ u ++ c ∷ r → Fails g s (suc (length u)) → n + open_brackets u ≡ brackets → StopsAt u c
+      → Judged g s (bad n (c ∷ r))
 
 -- the reader of bytes is right about every text
 abbrev pub Exact : Type 0

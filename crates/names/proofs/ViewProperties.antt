@@ -1,5 +1,6 @@
 -- What holds of the list of names of every table.
-use Rattle.std.proofs.Common.{◌≡◌, ℕ, ◌+◌, ◌<◌, ◌≤◌, true, List, [], ◌∷◌, ◌++◌, length, get_or, take, None, vec_items, vec_len, ap, ◌∙◌, subst, arith}
+use Rattle.std.proofs.Common.{◌≡◌, ℕ, ◌+◌, ◌<◌, ◌≤◌, true, List, [], ◌∷◌, ◌++◌, length, get_or, take, None, vec_items}
+use Rattle.std.proofs.Common.{vec_len, ap, ◌∙◌, subst, arith}
 use Rattle.std.specs.List.{between}
 use Rattle.std.proofs.lemmas.List.{get_or_read_under}
 use Rattle.terms.specs.Known.{known}
@@ -7,27 +8,10 @@ use Rattle.names.specs.declared.names.Names.{Names}
 use Rattle.names.specs.Table.{ascends, names_of}
 use Rattle.names.specs.Listed.{total, short, distinct, begins, place_of, Lawful}
 use Rattle.names.specs.View.{list}
-use Rattle.names.proofs.TableProperties.{
-  length_names_of,
-  total_names_of,
-  names_of_at,
-  ascends_at,
-  names_of_push,
-  ascends_push,
-  names_of_take,
-  ascends_take,
-}
-use Rattle.names.proofs.ListedProperties.{
-  length_begins,
-  lawful,
-  short_push,
-  short_take,
-  distinct_push,
-  distinct_take,
-  begins_append,
-  begins_take,
-  place_from_none,
-}
+use Rattle.names.proofs.TableProperties.{length_names_of, total_names_of, names_of_at, ascends_at, names_of_push}
+use Rattle.names.proofs.TableProperties.{ascends_push, names_of_take, ascends_take}
+use Rattle.names.proofs.ListedProperties.{length_begins, lawful, short_push, short_take, distinct_push, distinct_take}
+use Rattle.names.proofs.ListedProperties.{begins_append, begins_take, place_from_none}
 
 pub ascends_bounds : (t : Names) → ascends (length (vec_items t.bytes)) (vec_items t.bounds) ≡ true
 ascends_bounds t = subst (λ n. ascends n (vec_items t.bounds) ≡ true) t.bytes.ok.0 t.cut

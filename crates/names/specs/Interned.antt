@@ -1,5 +1,6 @@
 -- What adding a name to a list of names answers, and the list afterwards.
-use Rattle.std.specs.Prelude.{ℕ, ◌+◌, Bool, cond, ◌||◌, List, [], ◌∷◌, ◌++◌, length, Some, None, Ok, Err, Option, Result, nat_le, nat_lt}
+use Rattle.std.specs.Prelude.{ℕ, ◌+◌, Bool, cond, ◌||◌, List, [], ◌∷◌, ◌++◌, length, Some, None, Ok, Err, Option}
+use Rattle.std.specs.Prelude.{Result, nat_le, nat_lt}
 use Rattle.names.specs.declared.fault.NameFault.{NameFault}
 use Rattle.names.specs.declared.fault.NameFault.TheVariants.{TooLong, Full}
 use Rattle.names.specs.Listed.{total, place_of}

@@ -7,7 +7,8 @@ use Rattle.writer.specs.Shown.{place_in, firsts, firsts_all, as_written, all_as_
 use Rattle.readback.specs.Renaming.{renamed, all_renamed}
 use Rattle.readback.specs.ReadBack.{integers_small, all_small}
 use Rattle.readback.proofs.DigitProperties.{integer_text_value}
-use Rattle.readback.proofs.PlaceProperties.{place_within, length_with, place_inside_with, Keeps, keeps_first, kept_place}
+use Rattle.readback.proofs.PlaceProperties.{place_within, length_with, place_inside_with, Keeps, keeps_first}
+use Rattle.readback.proofs.PlaceProperties.{kept_place}
 use Rattle.readback.proofs.NameProperties.{number_name, names_from, number_of_name, meets_name}
 
 -- the names met where as many variables were seen

@@ -1,12 +1,15 @@
 -- Variables numbered by first appearance: their order, what it takes to undo it, and that it changes no text.
-use Rattle.std.proofs.Common.{◌≡◌, ℕ, zero, suc, ◌+◌, ◌≤◌, Bool, true, false, cond, ltb, List, [], ◌∷◌, ◌++◌, length, codes, sym, refl, ap, ◌∙◌, arith}
+use Rattle.std.proofs.Common.{◌≡◌, ℕ, zero, suc, ◌+◌, ◌≤◌, Bool, true, false, cond, ltb, List, [], ◌∷◌, ◌++◌, length}
+use Rattle.std.proofs.Common.{codes, sym, refl, ap, ◌∙◌, arith}
 use Rattle.std.proofs.lemmas.Bool.{eq-eqb, ne_eqb, ltb-false}
 use Rattle.terms.specs.Term.{Term, Terms, var, int, app, nil, cons}
 use Rattle.grammar.specs.Written as written
 use Rattle.writing.specs.Writing.{text}
 use Rattle.writer.specs.Shown.{decimal, place_in, with_variable, firsts, firsts_all, as_written, all_as_written}
-use Rattle.readback.specs.Renaming.{renamed, all_renamed, restored, all_restored, count_from, in_order, NumberedInOrder, NumberedOnce, NothingLost, SameText, HeadAndBodyAlike}
-use Rattle.readback.proofs.PlaceProperties.{place_within, variable_at_place, length_with, place_inside_with, Keeps, keeps_itself, firsts_keeps, keeps_first, kept_place}
+use Rattle.readback.specs.Renaming.{renamed, all_renamed, restored, all_restored, count_from, in_order, NumberedInOrder}
+use Rattle.readback.specs.Renaming.{NumberedOnce, NothingLost, SameText, HeadAndBodyAlike}
+use Rattle.readback.proofs.PlaceProperties.{place_within, variable_at_place, length_with, place_inside_with, Keeps}
+use Rattle.readback.proofs.PlaceProperties.{keeps_itself, firsts_keeps, keeps_first, kept_place}
 
 -- lists that keep the variables of a term number it alike
 mutual

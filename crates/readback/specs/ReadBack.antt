@@ -1,5 +1,6 @@
 -- What the writer writes, the reader reads back as the same term, its variables numbered by first appearance.
-use Rattle.std.specs.Prelude.{◌≡◌, ℕ, ◌+◌, ◌^◌, ◌<◌, ◌≤◌, max, Bool, true, cond, ◌&&◌, List, [], ◌++◌, length, ℤ, Some, codes, nat_lt}
+use Rattle.std.specs.Prelude.{◌≡◌, ℕ, ◌+◌, ◌^◌, ◌<◌, ◌≤◌, max, Bool, true, cond, ◌&&◌, List, [], ◌++◌, length, ℤ, Some}
+use Rattle.std.specs.Prelude.{codes, nat_lt}
 use Rattle.std.specs.Int.Signed.{mag}
 use Rattle.terms.specs.Term.{Term, Terms, var, int, app, nil, cons}
 use Rattle.grammar.specs.Written as written

@@ -1,5 +1,6 @@
 -- What a term that begins with the token found is: how the reader of bytes goes on, and what is built.
-use Rattle.std.proofs.Common.{◌≡◌, ℕ, ◌<◌, ◌≤◌, false, List, [], ◌∷◌, ◌++◌, length, drop, Some, None, Ok, Err, Result, sym, refl, ap, ◌∙◌, subst, inr, arith}
+use Rattle.std.proofs.Common.{◌≡◌, ℕ, ◌<◌, ◌≤◌, false, List, [], ◌∷◌, ◌++◌, length, drop, Some, None, Ok, Err, Result}
+use Rattle.std.proofs.Common.{sym, refl, ap, ◌∙◌, subst, inr, arith}
 use Rattle.tokens.specs.declared.kind.Kind.TheVariants.{Right, Stray}
 use Rattle.tokens.specs.declared.scan.Token.{Token as Code}
 use Rattle.tokens.specs.declared.scan.Token.TheVariants as code

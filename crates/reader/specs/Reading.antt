@@ -1,6 +1,7 @@
 -- What the functions of the reader answer, by the grammar's reader of bytes:
 -- how it goes on behind what they read, whatever is open around it.
-use Rattle.std.specs.Prelude.{◌≡◌, ℕ, suc, ◌+◌, ◌<◌, ◌≤◌, Bool, true, false, ◌⊎◌, List, ◌∷◌, length, drop, Some, Ok, Err, Result, ◌≢◌}
+use Rattle.std.specs.Prelude.{◌≡◌, ℕ, suc, ◌+◌, ◌<◌, ◌≤◌, Bool, true, false, ◌⊎◌, List, ◌∷◌, length, drop, Some, Ok}
+use Rattle.std.specs.Prelude.{Err, Result, ◌≢◌}
 use Rattle.tokens.specs.declared.kind.Kind.TheVariants.{Right, Comma, Stray}
 use Rattle.tokens.specs.declared.scan.TokenFault.TheVariants as token_fault
 use Rattle.tokens.specs.Bytes.{past, space}

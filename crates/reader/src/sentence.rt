@@ -49,7 +49,7 @@ pub fn read_query(line: &[u8], ops: &mut Vec<Op>) -> Result<(), LineFault>
 // A rule that begins right at the first byte.
 fn rule(line: &[u8], ops: &mut Vec<Op>) -> Result<Shape, TermFault>
     requires room { vec_len ops.old + length line.now ≤ vec_capacity ops.old }
-    requires empty { (ops.old.items ≡ []) × ((head_kind line.now ≢ a_space)) }
+    requires empty { (ops.old.items ≡ []) × (head_kind line.now ≢ a_space) }
     ensures read { RuleJudged line.now ops.new.items result }
     ensures same_room { vec_capacity ops.new ≡ vec_capacity ops.old }
 {

@@ -48,7 +48,7 @@ pub(crate) fn repeat(ops: &mut Vec<Op>, op: Op, count: usize)
 }
 
 // The term at `pos`, with `left` brackets still allowed.
-#[cycle(arguments_bracketed_elements_list_term_terms)]
+#[cycle(reading_terms)]
 pub fn term(line: &[u8], pos: usize, left: u8, ops: &mut Vec<Op>) -> Result<usize, TermFault>
     requires room { vec_len ops.old + length line.now ≤ vec_capacity ops.old + pos }
     requires within { pos ≤ length line.now }
@@ -96,7 +96,7 @@ pub fn term(line: &[u8], pos: usize, left: u8, ops: &mut Vec<Op>) -> Result<usiz
 }
 
 // The arguments directly behind a name that ends at `pos`, if any, and their closing bracket.
-#[cycle(arguments_bracketed_elements_list_term_terms)]
+#[cycle(reading_terms)]
 fn arguments(line: &[u8], pos: usize, left: u8, ops: &mut Vec<Op>) -> Result<Many, TermFault>
     requires room { vec_len ops.old + length line.now ≤ vec_capacity ops.old + pos }
     requires within { pos ≤ length line.now }
@@ -124,7 +124,7 @@ fn arguments(line: &[u8], pos: usize, left: u8, ops: &mut Vec<Op>) -> Result<Man
 }
 
 // The conjunction in round brackets that open at `start`.
-#[cycle(arguments_bracketed_elements_list_term_terms)]
+#[cycle(reading_terms)]
 fn bracketed(line: &[u8], start: usize, left: u8, ops: &mut Vec<Op>) -> Result<usize, TermFault>
     requires room { vec_len ops.old + length line.now ≤ vec_capacity ops.old + start }
     requires within { (start < length line.now) × (head_kind (drop start line.now) ≡ an_opening) }
@@ -147,7 +147,7 @@ fn bracketed(line: &[u8], start: usize, left: u8, ops: &mut Vec<Op>) -> Result<u
 }
 
 // The list in square brackets that open at `start`.
-#[cycle(arguments_bracketed_elements_list_term_terms)]
+#[cycle(reading_terms)]
 fn list(line: &[u8], start: usize, left: u8, ops: &mut Vec<Op>) -> Result<usize, TermFault>
     requires room { vec_len ops.old + length line.now ≤ vec_capacity ops.old + start }
     requires within { (start < length line.now) × (head_kind (drop start line.now) ≡ a_left) }
@@ -169,10 +169,10 @@ fn list(line: &[u8], start: usize, left: u8, ops: &mut Vec<Op>) -> Result<usize,
 }
 
 // The elements of a list that begin at `pos`, its tail if it has one, and the closing bracket.
-#[cycle(arguments_bracketed_elements_list_term_terms)]
+#[cycle(reading_terms)]
 fn elements(line: &[u8], pos: usize, left: u8, ops: &mut Vec<Op>) -> Result<usize, TermFault>
     requires room { vec_len ops.old + length line.now + 1 ≤ vec_capacity ops.old + pos }
-    requires within { (pos ≤ length line.now) × ((head_kind (past space (drop pos line.now)) ≢ a_right)) }
+    requires within { (pos ≤ length line.now) × (head_kind (past space (drop pos line.now)) ≢ a_right) }
     ensures read { ElementsRead left line.now pos ops.old.items ops.new.items result }
     ensures fitted { Fitted 1 result pos (vec_len ops.old) (vec_len ops.new) }
     ensures same_room { vec_capacity ops.new ≡ vec_capacity ops.old }
@@ -201,7 +201,7 @@ fn elements(line: &[u8], pos: usize, left: u8, ops: &mut Vec<Op>) -> Result<usiz
 }
 
 // One or more terms with commas between, from `pos` on.
-#[cycle(arguments_bracketed_elements_list_term_terms)]
+#[cycle(reading_terms)]
 pub fn terms(line: &[u8], pos: usize, left: u8, ops: &mut Vec<Op>) -> Result<Many, TermFault>
     requires room { vec_len ops.old + length line.now ≤ vec_capacity ops.old + pos }
     requires within { pos ≤ length line.now }

@@ -1,5 +1,6 @@
 -- The laws of stores hold.
-use Rattle.std.proofs.Common.{◌≡◌, ℕ, ◌+◌, Bool, true, false, cond, not, ◌||◌, eqb, ltb, leb, List, [], ◌∷◌, ◌++◌, length, Ok, Err, sym, refl, ap, ◌∙◌, inl, inr, arith}
+use Rattle.std.proofs.Common.{◌≡◌, ℕ, ◌+◌, Bool, true, false, cond, not, ◌||◌, eqb, ltb, leb, List, [], ◌∷◌, ◌++◌}
+use Rattle.std.proofs.Common.{length, Ok, Err, sym, refl, ap, ◌∙◌, inl, inr, arith}
 use Rattle.std.proofs.lemmas.List.{length_push}
 use Rattle.std.proofs.lemmas.Bool.{cases_Bool, and_from, or_parts, or_cases, leb-false, ltb-false, eqb-true, both_ways}
 use Rattle.rules.specs.Meaning.{Meaning, Value, End, front, back, Lawful, placed, is_of, is_full, used, rule_at}
@@ -7,7 +8,8 @@ use Rattle.rules.specs.Meaning.{holds, distinct, is_of_rule, ever_added, without
 use Rattle.rules.specs.Calls.{Same, Added}
 use Rattle.rules.specs.Laws.{SameAdds, SameErases, KeptByAdds, KeptByErases, GoneByErases, LawfulFresh, LawfulByAdds}
 use Rattle.rules.specs.Laws.{SkippedByErases, LawfulByErases}
-use Rattle.rules.proofs.MeaningProperties.{rule_at_kept, rule_at_new, is_of_rule_kept, is_of_rule_below, ever_added_push}
+use Rattle.rules.proofs.MeaningProperties.{rule_at_kept, rule_at_new, is_of_rule_kept, is_of_rule_below}
+use Rattle.rules.proofs.MeaningProperties.{ever_added_push}
 use Rattle.rules.proofs.MeaningProperties.{used_push, holds_push, distinct_push, holds_without, holds_before}
 use Rattle.rules.proofs.MeaningProperties.{distinct_without, next_holds}
 

@@ -1,7 +1,10 @@
 -- Rows of labels and lists of rules: what adding, taking out and looking up do to them.
-use Rattle.std.proofs.Common.{◌≡◌, ℕ, zero, suc, ◌+◌, ◌<◌, ◌≤◌, Bool, true, false, cond, not, ◌||◌, eqb, List, [], ◌∷◌, ◌++◌, length, get_or, drop, Some, None, Option, sym, refl, ap, ◌∙◌, inl, inr, arith}
-use Rattle.std.proofs.lemmas.Bool.{cases_Bool, and_parts, and_from, or_from, or_parts, or_left, or_right, or_cases, eqb-true, eq-eqb, ne_eqb, not-true, both_ways}
-use Rattle.rules.specs.Meaning.{Value, is_of, used, rule_at, first_of, behind, next_in, without, holds, distinct, is_of_rule, ever_added}
+use Rattle.std.proofs.Common.{◌≡◌, ℕ, zero, suc, ◌+◌, ◌<◌, ◌≤◌, Bool, true, false, cond, not, ◌||◌, eqb, List, [], ◌∷◌}
+use Rattle.std.proofs.Common.{◌++◌, length, get_or, drop, Some, None, Option, sym, refl, ap, ◌∙◌, inl, inr, arith}
+use Rattle.std.proofs.lemmas.Bool.{cases_Bool, and_parts, and_from, or_from, or_parts, or_left, or_right, or_cases}
+use Rattle.std.proofs.lemmas.Bool.{eqb-true, eq-eqb, ne_eqb, not-true, both_ways}
+use Rattle.rules.specs.Meaning.{Value, is_of, used, rule_at, first_of, behind, next_in, without, holds, distinct}
+use Rattle.rules.specs.Meaning.{is_of_rule, ever_added}
 
 pub rule_at_front : (vs ws : List Value) (l : ℕ) → l < length vs → rule_at (vs ++ ws) l ≡ rule_at vs l
 rule_at_front [] ws l h = absurd (omega arith)

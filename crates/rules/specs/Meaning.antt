@@ -1,6 +1,7 @@
 -- What a rule store means, whatever its make: every rule ever added, by label; for each indicator, that is for each name and
 -- number of arguments, the row of labels of its live rules; and the known indicators.
-use Rattle.std.specs.Prelude.{◌≡◌, ℕ, zero, suc, ◌+◌, ◌≤◌, Bool, true, false, cond, not, ◌&&◌, ◌||◌, List, [], ◌∷◌, ◌++◌, length, Some, None, Option, ◌==◌, nat_le, nat_lt}
+use Rattle.std.specs.Prelude.{◌≡◌, ℕ, zero, suc, ◌+◌, ◌≤◌, Bool, true, false, cond, not, ◌&&◌, ◌||◌, List, [], ◌∷◌}
+use Rattle.std.specs.Prelude.{◌++◌, length, Some, None, Option, ◌==◌, nat_le, nat_lt}
 use Rattle.terms.specs.declared.node.Node.{Node}
 use Rattle.rules.specs.Indicators.{is_one}
 

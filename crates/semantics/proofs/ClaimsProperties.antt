@@ -1,28 +1,18 @@
 -- How claims join: a step before, answers before, a marker or a collector below, and one walk then another.
-use Rattle.std.proofs.Common.{◌≡◌, ℕ, suc, ◌+◌, ◌*◌, ◌≤◌, Bool, true, false, cond, eqb, List, [], ◌∷◌, ◌++◌, refl, append-nil, arith}
+use Rattle.std.proofs.Common.{◌≡◌, ℕ, suc, ◌+◌, ◌*◌, ◌≤◌, Bool, true, false, cond, eqb, List, [], ◌∷◌, ◌++◌, refl}
+use Rattle.std.proofs.Common.{append-nil, arith}
 use borrow.Author.Tests.{eqb-false}
 use Rattle.terms.specs.Term.{Term}
 use Rattle.semantics.specs.Rules.{Rules}
 use Rattle.semantics.specs.Environment.{Env}
 use Rattle.semantics.specs.Language.{Language}
 use Rattle.semantics.specs.Steps.{Moment, Element, mark, State, goes, step_at}
-use Rattle.semantics.specs.Tree.{Ending, out, cut, ball, Walk, walked, after, visit, and_then, close, after_cut, handle, collect}
+use Rattle.semantics.specs.Tree.{Ending, out, cut, ball, Walk, walked, after, visit, and_then, close, after_cut, handle}
+use Rattle.semantics.specs.Tree.{collect}
 use Rattle.semantics.proofs.RunsProperties.{Runs, moves, runs_then, runs_on}
 use Rattle.semantics.proofs.Standing.{Base, Marks, Balls, with_mark, with_ball, later, later_m, later_b}
-use Rattle.semantics.proofs.Claims.{
-  shown,
-  In,
-  first,
-  next,
-  Lands,
-  at_out,
-  at_cut,
-  at_ball,
-  at_uncaught,
-  at_beyond,
-  Claim,
-  claim,
-}
+use Rattle.semantics.proofs.Claims.{shown, In, first, next, Lands, at_out, at_cut, at_ball, at_uncaught, at_beyond}
+use Rattle.semantics.proofs.Claims.{Claim, claim}
 
 shown_append : (f : Bool) (xs ys : List Env) → shown f (xs ++ ys) ≡ shown f xs ++ shown f ys
 shown_append true xs ys = refl

@@ -6,27 +6,12 @@ use Rattle.terms.specs.Term.{Term}
 use Rattle.semantics.specs.Rules.{Rules, Live, live, live_rules, erase_rule, add_rule, name_of, arity_of}
 use Rattle.semantics.specs.Environment.{Env}
 use Rattle.semantics.specs.Errors.{error_at, no_procedure}
-use Rattle.semantics.specs.Actions.{
-  Action,
-  go_on,
-  leaves,
-  both,
-  either,
-  cuts,
-  calls,
-  calling,
-  nots,
-  catches,
-  throws,
-  raises,
-  finds,
-  invokes,
-  retracts,
-  stores,
-  call_of,
-}
+use Rattle.semantics.specs.Actions.{Action, go_on, leaves, both, either, cuts, calls, calling, nots, catches, throws}
+use Rattle.semantics.specs.Actions.{raises, finds, invokes, retracts, stores, call_of}
 use Rattle.semantics.specs.Language.{Language}
-use Rattle.semantics.specs.Tree.{at, leave, Items, Ending, out, cut, ball, uncaught, beyond, Walk, walked, after, visit, and_then, close, after_cut, handle, collect, thrown, rest, Walker, each_rule, each_retract, recover, collected, over, walk}
+use Rattle.semantics.specs.Tree.{at, leave, Items, Ending, out, cut, ball, uncaught, beyond, Walk, walked, after, visit}
+use Rattle.semantics.specs.Tree.{and_then, close, after_cut, handle, collect, thrown, rest, Walker, each_rule}
+use Rattle.semantics.specs.Tree.{each_retract, recover, collected, over, walk}
 
 abbrev Marked : Type 1
 Marked = ℕ → Type 0

@@ -1,31 +1,17 @@
 -- More height changes nothing that a walk reached, and only adds answers.
-use Rattle.std.proofs.Common.{◌≡◌, ℕ, zero, suc, ◌≤◌, Bool, true, false, cond, eqb, List, [], ◌∷◌, ◌++◌, map, sym, refl, ap, ◌∙◌, append_assoc, append-nil, arith}
+use Rattle.std.proofs.Common.{◌≡◌, ℕ, zero, suc, ◌≤◌, Bool, true, false, cond, eqb, List, [], ◌∷◌, ◌++◌, map, sym, refl}
+use Rattle.std.proofs.Common.{ap, ◌∙◌, append_assoc, append-nil, arith}
 use mathlib.Core.Option.{Option, none, some}
 use Rattle.terms.specs.Term.{Term}
 use Rattle.semantics.specs.Rules.{Rules, Live, live, live_rules, erase_rule, add_rule, name_of, arity_of}
 use Rattle.semantics.specs.Environment.{Env}
 use Rattle.semantics.specs.Errors.{error_at, no_procedure}
-use Rattle.semantics.specs.Actions.{
-  Action,
-  go_on,
-  leaves,
-  both,
-  either,
-  cuts,
-  calls,
-  calling,
-  nots,
-  catches,
-  throws,
-  raises,
-  finds,
-  invokes,
-  retracts,
-  stores,
-  call_of,
-}
+use Rattle.semantics.specs.Actions.{Action, go_on, leaves, both, either, cuts, calls, calling, nots, catches, throws}
+use Rattle.semantics.specs.Actions.{raises, finds, invokes, retracts, stores, call_of}
 use Rattle.semantics.specs.Language.{Language}
-use Rattle.semantics.specs.Tree.{at, leave, Items, out, cut, ball, uncaught, beyond, Walk, walked, after, visit, and_then, close, after_cut, handle, collect, thrown, rest, Walker, each_rule, each_retract, recover, collected, over, walk}
+use Rattle.semantics.specs.Tree.{at, leave, Items, out, cut, ball, uncaught, beyond, Walk, walked, after, visit}
+use Rattle.semantics.specs.Tree.{and_then, close, after_cut, handle, collect, thrown, rest, Walker, each_rule}
+use Rattle.semantics.specs.Tree.{each_retract, recover, collected, over, walk}
 use Rattle.semantics.specs.Theorem.{answers, Extends, same, further}
 
 -- the answers of a walk that begins with those of another

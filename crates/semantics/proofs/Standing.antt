@@ -1,5 +1,6 @@
 -- A query of the tree stands as a query of the machine and its contexts, above a state that changes with the answers.
-use Rattle.std.proofs.Common.{◌≡◌, ℕ, ◌<◌, Bool, true, false, cond, eqb, List, [], ◌∷◌, ◌++◌, refl, ap, arith, eq-eqb, ne_eqb}
+use Rattle.std.proofs.Common.{◌≡◌, ℕ, ◌<◌, Bool, true, false, cond, eqb, List, [], ◌∷◌, ◌++◌, refl, ap, arith, eq-eqb}
+use Rattle.std.proofs.Common.{ne_eqb}
 use Rattle.terms.specs.Term.{Term}
 use Rattle.semantics.specs.Environment.{Env}
 use Rattle.semantics.specs.Actions.{call_of, fail_goal}

@@ -1,57 +1,16 @@
 -- What stands goes on standing: after answers, under a further element, and under a new marker.
-use Rattle.std.proofs.Common.{◌≡◌, ℕ, suc, ◌<◌, Bool, true, false, eqb, List, [], ◌∷◌, ◌++◌, refl, ap, ◌∙◌, append_assoc, arith, eq-eqb, ne_eqb}
+use Rattle.std.proofs.Common.{◌≡◌, ℕ, suc, ◌<◌, Bool, true, false, eqb, List, [], ◌∷◌, ◌++◌, refl, ap, ◌∙◌}
+use Rattle.std.proofs.Common.{append_assoc, arith, eq-eqb, ne_eqb}
 use Rattle.terms.specs.Term.{Term}
 use Rattle.semantics.specs.Rules.{Clause, Live, live}
 use Rattle.semantics.specs.Environment.{Env}
 use Rattle.semantics.specs.Language.{Language}
-use Rattle.semantics.specs.Steps.{
-  on,
-  Query,
-  Contexts,
-  Moment,
-  Element,
-  goal,
-  try,
-  retry,
-  mark,
-  State,
-  back,
-  before,
-  collects,
-  put,
-  land,
-  tries,
-  retries,
-}
+use Rattle.semantics.specs.Steps.{on, Query, Contexts, Moment, Element, goal, try, retry, mark, State, back, before}
+use Rattle.semantics.specs.Steps.{collects, put, land, tries, retries}
 use Rattle.semantics.specs.Tree.{at, Items}
-use Rattle.semantics.proofs.Standing.{
-  Base,
-  Marks,
-  Balls,
-  with_mark,
-  with_ball,
-  same_mark,
-  other_mark,
-  other_ball,
-  later,
-  later_m,
-  later_b,
-  Sink,
-  tells_it,
-  keeps_it,
-  Aims,
-  nowhere,
-  towards,
-  Stops,
-  bare,
-  behind,
-  Stands,
-  done,
-  goes_on,
-  goes_call,
-  goes_fail,
-  goes_off,
-}
+use Rattle.semantics.proofs.Standing.{Base, Marks, Balls, with_mark, with_ball, same_mark, other_mark, other_ball}
+use Rattle.semantics.proofs.Standing.{later, later_m, later_b, Sink, tells_it, keeps_it, Aims, nowhere, towards, Stops}
+use Rattle.semantics.proofs.Standing.{bare, behind, Stands, done, goes_on, goes_call, goes_fail, goes_off}
 
 -- where a ball goes that is thrown at the first goal
 pub stands_aims : {l : Language} {ρ : Marks} {β : Balls} {f : Bool} {n : ℕ} {q : Items} {o : List ℕ} {q' : Query}

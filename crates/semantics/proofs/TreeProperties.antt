@@ -1,5 +1,6 @@
 -- What the steps of a query tell, by the walk of its tree to a height.
-use Rattle.std.proofs.Common.{◌≡◌, ℕ, suc, ◌+◌, ◌-◌, ◌≤◌, Bool, true, false, cond, eqb, List, [], ◌∷◌, refl, subst, arith}
+use Rattle.std.proofs.Common.{◌≡◌, ℕ, suc, ◌+◌, ◌-◌, ◌≤◌, Bool, true, false, cond, eqb, List, [], ◌∷◌, refl, subst}
+use Rattle.std.proofs.Common.{arith}
 use Rattle.terms.specs.Term.{Term, size}
 use Rattle.semantics.specs.Rules.{Rules}
 use Rattle.semantics.specs.Environment.{Env}

@@ -1,76 +1,29 @@
 -- Every walk says what the machine does, by induction on its height.
-use Rattle.std.proofs.Common.{◌≡◌, ℕ, zero, suc, ◌+◌, ◌<◌, Bool, true, false, cond, eqb, List, [], ◌∷◌, ◌++◌, map, sym, refl, ap, ◌∙◌, arith, eq-eqb}
+use Rattle.std.proofs.Common.{◌≡◌, ℕ, zero, suc, ◌+◌, ◌<◌, Bool, true, false, cond, eqb, List, [], ◌∷◌, ◌++◌, map, sym}
+use Rattle.std.proofs.Common.{refl, ap, ◌∙◌, arith, eq-eqb}
 use mathlib.Core.List.{map-append}
 use mathlib.Core.Option.{Option, none, some}
 use Rattle.terms.specs.Term.{Term, size}
 use Rattle.semantics.specs.Rules.{Rules, Live, live, live_rules, add_rule, erase_rule, name_of, arity_of, clause_size}
 use Rattle.semantics.specs.Environment.{Env}
 use Rattle.semantics.specs.Errors.{error_at, no_procedure}
-use Rattle.semantics.specs.Actions.{
-  Action,
-  go_on,
-  leaves,
-  both,
-  either,
-  cuts,
-  calls,
-  calling,
-  nots,
-  catches,
-  throws,
-  raises,
-  finds,
-  invokes,
-  retracts,
-  stores,
-  call_of,
-  cut_goal,
-  fail_goal,
-}
+use Rattle.semantics.specs.Actions.{Action, go_on, leaves, both, either, cuts, calls, calling, nots, catches, throws}
+use Rattle.semantics.specs.Actions.{raises, finds, invokes, retracts, stores, call_of, cut_goal, fail_goal}
 use Rattle.semantics.specs.Language.{Language, Calls, does, errs}
-use Rattle.semantics.specs.Steps.{on, throw, Query, context, Contexts, Moment, Element, goal, mark, collector, back, goes, tells, rebound, taking, marking, tries, retries, raise, list_size, land, throw_to, act, step_at}
-use Rattle.semantics.specs.Tree.{at, leave, Items, out, walked, visit, and_then, thrown, each_rule, each_retract, close, over, walk}
+use Rattle.semantics.specs.Steps.{on, throw, Query, context, Contexts, Moment, Element, goal, mark, collector, back}
+use Rattle.semantics.specs.Steps.{goes, tells, rebound, taking, marking, tries, retries, raise, list_size, land}
+use Rattle.semantics.specs.Steps.{throw_to, act, step_at}
+use Rattle.semantics.specs.Tree.{at, leave, Items, out, walked, visit, and_then, thrown, each_rule, each_retract, close}
+use Rattle.semantics.specs.Tree.{over, walk}
 use Rattle.semantics.proofs.RunsProperties.{here, moves, speaks, runs_once}
-use Rattle.semantics.proofs.Standing.{
-  Base,
-  Marks,
-  Balls,
-  with_mark,
-  with_ball,
-  later,
-  later_m,
-  later_b,
-  Sink,
-  tells_it,
-  keeps_it,
-  Aims,
-  nowhere,
-  towards,
-  Stops,
-  bare,
-  behind,
-  Stands,
-  done,
-  goes_on,
-  goes_call,
-  goes_fail,
-  goes_off,
-}
-use Rattle.semantics.proofs.StandingProperties.{stands_aims, later_stands, goal_skipped, under, under_tries, under_retries, above_mark, above_ball, bears_new, fresh, beside}
+use Rattle.semantics.proofs.Standing.{Base, Marks, Balls, with_mark, with_ball, later, later_m, later_b, Sink, tells_it}
+use Rattle.semantics.proofs.Standing.{keeps_it, Aims, nowhere, towards, Stops, bare, behind, Stands, done, goes_on}
+use Rattle.semantics.proofs.Standing.{goes_call, goes_fail, goes_off}
+use Rattle.semantics.proofs.StandingProperties.{stands_aims, later_stands, goal_skipped, under, under_tries}
+use Rattle.semantics.proofs.StandingProperties.{under_retries, above_mark, above_ball, bears_new, fresh, beside}
 use Rattle.semantics.proofs.Claims.{first, at_out, at_ball, at_uncaught, at_beyond, Claim, claim}
-use Rattle.semantics.proofs.ClaimsProperties.{
-  unshown,
-  claim_visit,
-  claim_try,
-  claim_step,
-  claim_open,
-  claim_slack,
-  claim_cut,
-  claim_then,
-  claim_close,
-  claim_handle,
-  claim_collect,
-}
+use Rattle.semantics.proofs.ClaimsProperties.{unshown, claim_visit, claim_try, claim_step, claim_open, claim_slack}
+use Rattle.semantics.proofs.ClaimsProperties.{claim_cut, claim_then, claim_close, claim_handle, claim_collect}
 
 -- what is shown of each walk to the height h
 abbrev pub Sound : Language → ℕ → Type 0

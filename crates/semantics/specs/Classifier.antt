@@ -2,14 +2,8 @@
 use Rattle.std.specs.Prelude.{ℕ, ◌+◌, Bool, true, false, cond, ◌&&◌, ◌||◌, List, codes, ◌==◌, nat_lt}
 use Rattle.std.proofs.Math.Option.{Option, none, some}
 use Rattle.arithmetic.specs.declared.comparison.Comparison.{Comparison}
-use Rattle.arithmetic.specs.declared.comparison.Comparison.TheVariants.{
-  Equal,
-  Different,
-  Less,
-  AtMost,
-  Greater,
-  AtLeast,
-}
+use Rattle.arithmetic.specs.declared.comparison.Comparison.TheVariants.{Equal, Different, Less, AtMost, Greater}
+use Rattle.arithmetic.specs.declared.comparison.Comparison.TheVariants.{AtLeast}
 use Rattle.arithmetic.specs.Integers.{compared}
 use Rattle.terms.specs.Term.{Term, Terms, var, int, app, nil, cons, count, join}
 use Rattle.terms.specs.Known.{call_name, comma_name, semicolon_name, true_name, empty_name, dot_name}
@@ -19,33 +13,10 @@ use Rattle.rules.specs.Meaning.{End, front, back}
 use Rattle.unification.specs.Copies.{copy, width}
 use Rattle.semantics.specs.Environment.{Env, resolve, unify_in}
 use Rattle.semantics.specs.Evaluation.{Value, number, fault, evaluate}
-use Rattle.semantics.specs.Errors.{
-  constant,
-  error_at,
-  instantiation,
-  not_callable,
-  not_list,
-  too_many_arguments,
-  not_modified,
-}
-use Rattle.semantics.specs.Actions.{
-  Action,
-  go_on,
-  leaves,
-  both,
-  either,
-  cuts,
-  calls,
-  calling,
-  nots,
-  catches,
-  throws,
-  raises,
-  finds,
-  invokes,
-  retracts,
-  stores,
-}
+use Rattle.semantics.specs.Errors.{constant, error_at, instantiation, not_callable, not_list, too_many_arguments}
+use Rattle.semantics.specs.Errors.{not_modified}
+use Rattle.semantics.specs.Actions.{Action, go_on, leaves, both, either, cuts, calls, calling, nots, catches, throws}
+use Rattle.semantics.specs.Actions.{raises, finds, invokes, retracts, stores}
 
 -- the error of a term that cannot be called
 abbrev pub uncallable : Term → Option Term

@@ -2,30 +2,12 @@
 use Rattle.std.specs.Prelude.{ℕ, suc, ◌+◌, ◌*◌, Bool, true, false, cond, List, [], ◌∷◌, ◌++◌, ◌==◌}
 use Rattle.std.proofs.Math.Option.{Option, none, some}
 use Rattle.terms.specs.Term.{Term, size}
-use Rattle.semantics.specs.Rules.{Clause, Rules, Live, live, live_rules, add_rule, erase_rule, clause_size, name_of, arity_of}
+use Rattle.semantics.specs.Rules.{Clause, Rules, Live, live, live_rules, add_rule, erase_rule, clause_size, name_of}
+use Rattle.semantics.specs.Rules.{arity_of}
 use Rattle.semantics.specs.Environment.{Env}
 use Rattle.semantics.specs.Errors.{error_at, no_procedure}
-use Rattle.semantics.specs.Actions.{
-  Action,
-  go_on,
-  leaves,
-  both,
-  either,
-  cuts,
-  calls,
-  calling,
-  nots,
-  catches,
-  throws,
-  raises,
-  finds,
-  invokes,
-  retracts,
-  stores,
-  call_of,
-  cut_goal,
-  fail_goal,
-}
+use Rattle.semantics.specs.Actions.{Action, go_on, leaves, both, either, cuts, calls, calling, nots, catches, throws}
+use Rattle.semantics.specs.Actions.{raises, finds, invokes, retracts, stores, call_of, cut_goal, fail_goal}
 use Rattle.semantics.specs.Language.{Language}
 use Rattle.semantics.specs.Positions.{positions}
 
@@ -67,7 +49,7 @@ pub data Element : Type 0 where
 abbrev pub State : Type 0
 State = List Element
 
--- all before ?m leaves
+-- all elements before the marker m leave
 abbrev pub back : ℕ → State → State
 back m [] = []
 back m (goal q c p ∷ k) = back m k
@@ -76,7 +58,7 @@ back m (retry h t x q c p ∷ k) = back m k
 back m (mark n p ∷ k) = cond (m == n) (mark n p ∷ k) (back m k)
 back m (collector t s q c xs p ∷ k) = back m k
 
--- whether ?m stands before every collector
+-- whether the marker m stands before every collector
 abbrev pub before : ℕ → State → Bool
 before m [] = false
 before m (goal q c p ∷ k) = before m k

@@ -3,27 +3,12 @@ use Rattle.std.specs.Prelude.{ℕ, ◌+◌, ◌*◌, max, Bool, false, cond, ◌
 use Rattle.terms.specs.Term.{Term, size}
 use Rattle.semantics.specs.Rules.{Clause, Rules, live, clause_size, arity_of}
 use Rattle.semantics.specs.Errors.{error_at, no_procedure}
-use Rattle.semantics.specs.Actions.{
-  Action,
-  go_on,
-  leaves,
-  both,
-  either,
-  cuts,
-  calls,
-  calling,
-  nots,
-  catches,
-  throws,
-  raises,
-  finds,
-  invokes,
-  retracts,
-  stores,
-}
+use Rattle.semantics.specs.Actions.{Action, go_on, leaves, both, either, cuts, calls, calling, nots, catches, throws}
+use Rattle.semantics.specs.Actions.{raises, finds, invokes, retracts, stores}
 use Rattle.semantics.specs.Language.{Language}
 use Rattle.semantics.specs.Positions.{positions}
-use Rattle.semantics.specs.Steps.{on, throw, context, Contexts, Moment, Element, goal, try, retry, mark, collector, State, Outcome, goes, tells, fails, list_size, step_at}
+use Rattle.semantics.specs.Steps.{on, throw, context, Contexts, Moment, Element, goal, try, retry, mark, collector}
+use Rattle.semantics.specs.Steps.{State, Outcome, goes, tells, fails, list_size, step_at}
 
 -- so many units, elements and nodes of results; so many labels of rules, and nodes of all rules
 pub record Room : Type 0 where

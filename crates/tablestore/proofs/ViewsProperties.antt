@@ -1,6 +1,9 @@
 -- What every table of the code keeps to, and what its changes mean.
-use Rattle.std.proofs.Common.{◌≡◌, ℕ, suc, ◌+◌, ◌-◌, ◌<◌, ◌≤◌, Bool, true, false, cond, ◌||◌, ltb, leb, List, [], ◌∷◌, ◌++◌, length, get_or, take, drop, Some, None, vec_items, vec_len, Option, sym, refl, ap, ◌∙◌, inl, inr, add-one, arith}
-use Rattle.std.proofs.lemmas.Bool.{cond-true, or_parts, or_left, le-leb, lt-leb, leb-false, ltb-false, lt-ltb, le-ltb, cases_lt}
+use Rattle.std.proofs.Common.{◌≡◌, ℕ, suc, ◌+◌, ◌-◌, ◌<◌, ◌≤◌, Bool, true, false, cond, ◌||◌, ltb, leb, List, [], ◌∷◌}
+use Rattle.std.proofs.Common.{◌++◌, length, get_or, take, drop, Some, None, vec_items, vec_len, Option, sym, refl, ap}
+use Rattle.std.proofs.Common.{◌∙◌, inl, inr, add-one, arith}
+use Rattle.std.proofs.lemmas.Bool.{cond-true, or_parts, or_left, le-leb, lt-leb, leb-false, ltb-false, lt-ltb, le-ltb}
+use Rattle.std.proofs.lemmas.Bool.{cases_lt}
 use Rattle.terms.specs.declared.node.Node.{Node}
 use Rattle.rules.specs.Meaning.{Value, End, Lawful, placed, is_full, used, ever_added, without}
 use Rattle.rules.specs.Meaning.{rule_at, is_of_rule, first_of, next_in}

@@ -39,7 +39,8 @@ impl TableStore {
 
     // The first live label of this indicator from a place on.
     pub(crate) fn first_from(&self, indicator: Indicator, from: usize) -> Option<u32>
-        ensures { result ≡ first_of (own (rules_of self.now) (drop from (live_of self.now)) indicator.name indicator.arity) }
+        ensures { result
+            ≡ first_of (own (rules_of self.now) (drop from (live_of self.now)) indicator.name indicator.arity) }
     {
         for at in from..self.live.len() {
             let label = self.live[at];

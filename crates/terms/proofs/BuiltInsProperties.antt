@@ -1,7 +1,9 @@
 -- The built-in predicates by the place of their name and by the name itself are the same.
-use Rattle.std.proofs.Common.{◌≡◌, ℕ, ◌<◌, ◌≤◌, Bool, true, false, not, ◌&&◌, eqb, ltb, leb, List, [], ◌∷◌, length, get_or, sym, refl, ap, ◌∙◌, inl, inr, arith, lit<}
+use Rattle.std.proofs.Common.{◌≡◌, ℕ, ◌<◌, ◌≤◌, Bool, true, false, not, ◌&&◌, eqb, ltb, leb, List, [], ◌∷◌, length}
+use Rattle.std.proofs.Common.{get_or, sym, refl, ap, ◌∙◌, inl, inr, arith, lit<}
 use Rattle.std.proofs.lemmas.List.{get_or_past}
-use Rattle.std.proofs.lemmas.Bool.{ltb-true, le-ltb, lt-leb, ne_eqb, cases_lt, cond_both, not-true, and_parts, and_left, and_right, or_from, cond-false}
+use Rattle.std.proofs.lemmas.Bool.{ltb-true, le-ltb, lt-leb, ne_eqb, cases_lt, cond_both, not-true, and_parts, and_left}
+use Rattle.std.proofs.lemmas.Bool.{and_right, or_from, cond-false}
 use Rattle.terms.specs.Known.{known, call_name}
 use Rattle.terms.specs.Goals.{same}
 use Rattle.terms.specs.BuiltIns.{arities, built_in, one_of, with_none, with_one, with_two, with_three, is_built_in}

@@ -1,5 +1,6 @@
 -- Goal forms of arguments, and their sizes.
-use Rattle.std.proofs.Common.{◌≡◌, ℕ, zero, suc, ◌+◌, ◌≤◌, Bool, true, false, cond, ◌&&◌, ◌||◌, eqb, List, [], ◌∷◌, length, get_or, take, sym, refl, ap, ◌∙◌, add_assoc, zero-add, arith}
+use Rattle.std.proofs.Common.{◌≡◌, ℕ, zero, suc, ◌+◌, ◌≤◌, Bool, true, false, cond, ◌&&◌, ◌||◌, eqb, List, [], ◌∷◌}
+use Rattle.std.proofs.Common.{length, get_or, take, sym, refl, ap, ◌∙◌, add_assoc, zero-add, arith}
 use Rattle.terms.specs.Term.{Term, Terms, var, int, app, nil, cons, join, count, size, sizes}
 use Rattle.terms.specs.Rows.{terms_at}
 use Rattle.terms.specs.Goals.{goal_form, goal_forms}

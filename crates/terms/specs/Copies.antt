@@ -1,5 +1,6 @@
 -- Copies of a term from one row into another, as it stands or in the form of a goal.
-use Rattle.std.specs.Prelude.{◌≡◌, ℕ, ◌+◌, ◌<◌, Bool, true, cond, ◌||◌, List, [], length, get_or, take, Some, None, Option, ◌==◌, slice_index_or}
+use Rattle.std.specs.Prelude.{◌≡◌, ℕ, ◌+◌, ◌<◌, Bool, true, cond, ◌||◌, List, [], length, take, Some, None, Option}
+use Rattle.std.specs.Prelude.{◌==◌, slice_index_or}
 use Rattle.terms.specs.declared.node.Node.{Node}
 use Rattle.terms.specs.declared.row.Row.{Row}
 use Rattle.terms.specs.Term.{Term, size}
@@ -10,7 +11,7 @@ use Rattle.terms.specs.RowViews.{row_nodes, row_limit}
 
 -- Names of which `call` has the place 6, and of which `,` and `;` have the places 3 and 4 and no others.
 pub record Standard (ns : List (List ℕ)) : Type 0 where
-  pub call : get_or ns 6 [] ≡ call_name
+  pub call : slice_index_or ns 6 [] ≡ call_name
   pub control : (f : ℕ) → is_control (slice_index_or ns f []) ≡ (f == 3 || f == 4)
 
 -- any names

@@ -50,7 +50,8 @@ fn copy(source: &Row, at: u32, goal: bool, target: &mut Row) -> Option<u32>
 fn lay(source: &Row, at: u32, goal: bool, target: &mut Row) -> Option<u32>
     requires { at < length (row_nodes source.now) }
     ensures limit { row_limit target.new ≡ row_limit target.old }
-    ensures laid { LaidIn (Reads goal) (λ ns. formed goal (meaning ns (row_nodes source.now) at)) target.old target.new result }
+    ensures laid { LaidIn (Reads goal) (λ ns. formed goal (meaning ns (row_nodes source.now) at))
+        target.old target.new result }
 {
     let node = source.nodes()[at as usize];
     match node {

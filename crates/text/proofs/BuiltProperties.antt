@@ -1,5 +1,7 @@
 -- What is built with one node more.
-use Rattle.std.proofs.Common.{◌≡◌, ℕ, suc, ◌+◌, ◌-◌, ◌<◌, ◌≤◌, min, true, false, cond, ltb, leb, List, [], ◌∷◌, ◌++◌, length, take, drop, ℤ, is_ok, is_err, Some, None, Ok, Err, Result, sym, refl, ap, ◌∙◌, subst, inl, inr, arith}
+use Rattle.std.proofs.Common.{◌≡◌, ℕ, suc, ◌+◌, ◌-◌, ◌<◌, ◌≤◌, min, true, false, cond, ltb, leb, List, [], ◌∷◌, ◌++◌}
+use Rattle.std.proofs.Common.{length, take, drop, ℤ, is_ok, is_err, Some, None, Ok, Err, Result, sym, refl, ap, ◌∙◌}
+use Rattle.std.proofs.Common.{subst, inl, inr, arith}
 use Rattle.std.proofs.lemmas.List.{length_push, take_all, take_at, drop_at}
 use Rattle.std.proofs.lemmas.Bool.{ltb-false, le-leb, and_parts, and_from, and_cases, cases_Bool, both_ways}
 use Rattle.names.specs.declared.fault.NameFault.{NameFault}
@@ -21,9 +23,13 @@ use Rattle.text.specs.Integers.{fits_integer, integer_of, read_integer}
 use Rattle.text.specs.Numbering.{number_of, meets, met_stack, numbered_all, numbered_stack}
 use Rattle.text.specs.Limits.{entered_stack, nodes_stack, small_stack, room_for_stack, stack_fits}
 use Rattle.text.specs.Building.{cuts, meanings_at, Pushed, Built, Ends}
-use Rattle.text.proofs.StacksProperties.{Fits, fits_parts, fits_from, unfit, named_parts, named_from, named_met, named_entered, named_nodes, listed, take_many_numbered, take_many_count, take_many_size}
+use Rattle.text.proofs.StacksProperties.{Fits, fits_parts, fits_from, unfit, named_parts, named_from, named_met}
+use Rattle.text.proofs.StacksProperties.{named_entered, named_nodes, listed, take_many_numbered, take_many_count}
+use Rattle.text.proofs.StacksProperties.{take_many_size}
 use Rattle.text.proofs.EnteredProperties.{extends_trans, get_or_extended, interned_brief}
-use Rattle.text.proofs.MeaningsProperties.{meanings_at_append, meanings_at_old, meanings_at_take, meanings_at_drop, length_meanings_at, length_numbered_stack, all_below_take, all_below_drop, together, together_listed, terms_at_together}
+use Rattle.text.proofs.MeaningsProperties.{meanings_at_append, meanings_at_old, meanings_at_take, meanings_at_drop}
+use Rattle.text.proofs.MeaningsProperties.{length_meanings_at, length_numbered_stack, all_below_take, all_below_drop}
+use Rattle.text.proofs.MeaningsProperties.{together, together_listed, terms_at_together}
 
 module _ (text : List ℕ) (first : List (List ℕ)) (st : Stack) (ns : List (List ℕ)) (nodes : List Node)
     (places : List ℕ) (spans : List Span) (b : Built text first st ns nodes places spans) where

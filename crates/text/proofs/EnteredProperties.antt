@@ -1,5 +1,6 @@
 -- Names in a table, and those that are entered later.
-use Rattle.std.proofs.Common.{◌≡◌, ℕ, ◌<◌, ◌≤◌, min, true, false, cond, ltb, List, [], length, get_or, take, is_ok, Some, None, Err, sym, refl, ap, ◌∙◌, inl, inr, arith}
+use Rattle.std.proofs.Common.{◌≡◌, ℕ, ◌<◌, ◌≤◌, min, true, false, cond, ltb, List, [], length, get_or, take, is_ok}
+use Rattle.std.proofs.Common.{Some, None, Err, sym, refl, ap, ◌∙◌, inl, inr, arith}
 use Rattle.std.proofs.lemmas.List.{length-take, get_or-take, take-take}
 use Rattle.std.proofs.lemmas.Bool.{ltb-true, cases_Bool, cases_lt, both_ways}
 use Rattle.names.specs.declared.fault.NameFault.{NameFault}

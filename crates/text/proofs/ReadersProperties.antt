@@ -1,5 +1,6 @@
 -- What a text that was read and stored, or refused, is.
-use Rattle.std.proofs.Common.{◌≡◌, ℕ, ◌≤◌, max, true, false, List, [], ◌∷◌, length, take, is_err, Ok, Err, Result, refl, ap, ◌∙◌, arith}
+use Rattle.std.proofs.Common.{◌≡◌, ℕ, ◌≤◌, max, true, false, List, [], ◌∷◌, length, take, is_err, Ok, Err, Result, refl}
+use Rattle.std.proofs.Common.{ap, ◌∙◌, arith}
 use Rattle.std.proofs.lemmas.Bool.{false≢true}
 use Rattle.names.specs.Listed.{Extends}
 use Rattle.terms.specs.declared.node.Node.{Node}

@@ -1,5 +1,6 @@
 -- The limits of a rule and of a query are those of the stack that they leave, with the nodes of goals.
-use Rattle.std.proofs.Common.{◌≡◌, ℕ, ◌+◌, ◌<◌, ◌≤◌, Bool, true, false, ◌&&◌, eqb, leb, List, [], ◌∷◌, length, inl, inr, arith}
+use Rattle.std.proofs.Common.{◌≡◌, ℕ, ◌+◌, ◌<◌, ◌≤◌, Bool, true, false, ◌&&◌, eqb, leb, List, [], ◌∷◌, length, inl, inr}
+use Rattle.std.proofs.Common.{arith}
 use Rattle.std.proofs.lemmas.Bool.{leb-true, le-leb, and_parts, and_from, cases_Bool, both_ways}
 use Rattle.terms.specs.Term.{Term, Terms, var, int, app, nil, cons, size, sizes, count}
 use Rattle.terms.specs.Goals.{goal_form, goal_forms, is_control}

@@ -1,5 +1,6 @@
 -- What a stack of terms keeps when those on top become the arguments of a name.
-use Rattle.std.proofs.Common.{◌≡◌, ℕ, zero, suc, ◌+◌, ◌<◌, ◌≤◌, min, true, false, ◌&&◌, leb, List, [], ◌∷◌, ◌++◌, length, is_ok, sym, refl, ap, ◌∙◌, inl, inr, append_assoc, arith}
+use Rattle.std.proofs.Common.{◌≡◌, ℕ, zero, suc, ◌+◌, ◌<◌, ◌≤◌, min, true, false, ◌&&◌, leb, List, [], ◌∷◌, ◌++◌}
+use Rattle.std.proofs.Common.{length, is_ok, sym, refl, ap, ◌∙◌, inl, inr, append_assoc, arith}
 use Rattle.std.proofs.lemmas.List.{append-nil}
 use Rattle.std.proofs.lemmas.Bool.{leb-true, le-leb, and_parts, and_from, cases_Bool}
 use Rattle.names.specs.Interned.{interned, list_after}
@@ -8,7 +9,8 @@ use Rattle.terms.proofs.FittingProperties.{and_assoc}
 use Rattle.grammar.specs.Written.{Written, Writtens, nil, cons, size}
 use Rattle.reader.specs.Ops.{Stack, take_one, take_many, named}
 use Rattle.text.specs.Numbering.{met_all, numbered_all, met_stack, numbered_stack}
-use Rattle.text.specs.Limits.{small, small_all, entered_all, room_for, room_for_all, small_stack, nodes_stack, entered_stack, room_for_stack, stack_fits}
+use Rattle.text.specs.Limits.{small, small_all, entered_all, room_for, room_for_all, small_stack, nodes_stack}
+use Rattle.text.specs.Limits.{entered_stack, room_for_stack, stack_fits}
 use Rattle.text.proofs.NumberingProperties.{and_true}
 
 -- what holds of a stack and the terms taken from it holds when one more is taken

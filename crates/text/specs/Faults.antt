@@ -1,9 +1,13 @@
--- Why a rule cannot be stored, told by the nodes of its head and body.
+-- Why a rule cannot be stored, told by the nodes of its head and body; and the limit that a fault of a name passes.
 use Rattle.std.specs.Prelude.{◌≡◌, ℕ, cond, List, length, Some, None, Option}
 use Rattle.terms.specs.declared.node.Node.{Node}
 use Rattle.terms.specs.declared.node.Node.TheVariants.{Var, Int, App}
 use Rattle.terms.specs.BuiltIns.{built_in}
 use Rattle.terms.specs.Places.{node_at}
+use Rattle.names.specs.declared.fault.NameFault.{NameFault}
+use Rattle.names.specs.declared.fault.NameFault.TheVariants.{TooLong, Full}
+use Rattle.text.specs.declared.fault.LimitFault.{LimitFault}
+use Rattle.text.specs.declared.fault.LimitFault.TheVariants.{LongName, Names}
 use Rattle.text.specs.declared.fault.HeadFault.{HeadFault}
 use Rattle.text.specs.declared.fault.HeadFault.TheVariants.{VariableHead, IntegerHead, BuiltInHead, IntegerBody}
 
@@ -26,6 +30,11 @@ first_of (Some f) o = Some f
 
 abbrev pub nodes_fault : List Node → ℕ → ℕ → Option HeadFault
 nodes_fault nodes head body = first_of (head_node_fault (node_at nodes head)) (body_node_fault (node_at nodes body))
+
+-- a name that is too long, or no room for it in the table
+abbrev pub limit_of : NameFault → LimitFault
+limit_of TooLong = LongName
+limit_of Full = Names
 
 -- a node has eight places for its arguments
 abbrev pub Eight : Option Node → Type 0

@@ -43,7 +43,8 @@ pub record CopiedRule (first : List (List ℕ)) (head body : Written) (ns : List
   pub body_is : meaning ns nodes r.body ≡ goal_form (numbered (met [] head) body)
   pub variables_are : r.variables ≡ length (met (met [] head) body)
 
-abbrev pub RuleCopied : List (List ℕ) → Written → Written → List (List ℕ) → List Node → Result RuleText LimitFault → Type 0
+abbrev pub RuleCopied : List (List ℕ) → Written → Written → List (List ℕ) → List Node
+    → Result RuleText LimitFault → Type 0
 RuleCopied first head body ns nodes (Ok r) = CopiedRule first head body ns nodes r
 RuleCopied first head body ns nodes (Err f) = rule_fits first head body ≡ false
 
@@ -55,7 +56,8 @@ CopiesRule b p q row row' r =
     → RuleCopied first head body ns (row_nodes row') r
 
 -- a rule in a row that can be stored, or why not
-abbrev pub RuleFinished : List (List ℕ) → Written → Written → List (List ℕ) → List Node → Result RuleText TextFault → Type 0
+abbrev pub RuleFinished : List (List ℕ) → Written → Written → List (List ℕ) → List Node
+    → Result RuleText TextFault → Type 0
 RuleFinished first head body ns nodes (Ok r) = CopiedRule first head body ns nodes r × (head_fault head body ≡ None)
 RuleFinished first head body ns nodes (Err (Limit f)) = rule_fits first head body ≡ false
 RuleFinished first head body ns nodes (Err (Head f)) =

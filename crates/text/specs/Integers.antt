@@ -1,5 +1,6 @@
 -- The value of an integer as it is written: digits, with a sign before them or not.
-use Rattle.std.specs.Prelude.{ℕ, zero, suc, ◌+◌, ◌-◌, ◌*◌, Bool, true, cond, List, [], ◌∷◌, ℤ, pos, negsuc, Some, None, Option, ◌==◌, nat_le, nat_lt}
+use Rattle.std.specs.Prelude.{ℕ, zero, suc, ◌+◌, ◌-◌, ◌*◌, Bool, true, cond, List, [], ◌∷◌, ℤ, pos, negsuc, Some, None}
+use Rattle.std.specs.Prelude.{Option, ◌==◌, nat_le, nat_lt}
 
 abbrev pub magnitude_from : ℕ → List ℕ → ℕ
 magnitude_from n [] = n
@@ -17,7 +18,8 @@ integer_of (c ∷ s) = cond (c == 45) (negative (magnitude_from 0 s)) (pos (magn
 -- whether it has at most 32 bits
 abbrev pub fits_integer : List ℕ → Bool
 fits_integer [] = true
-fits_integer (c ∷ s) = cond (c == 45) (nat_le (magnitude_from 0 s) 2147483648) (nat_lt (magnitude_from 0 (c ∷ s)) 2147483648)
+fits_integer (c ∷ s) =
+    cond (c == 45) (nat_le (magnitude_from 0 s) 2147483648) (nat_lt (magnitude_from 0 (c ∷ s)) 2147483648)
 
 abbrev pub read_integer : List ℕ → Option ℤ
 read_integer s = cond (fits_integer s) (Some (integer_of s)) None

@@ -48,7 +48,8 @@ rule_fits ns h b =
     && room_for ns h && room_for (entered ns h) b
 
 abbrev pub query_fits : List (List ℕ) → Written → Bool
-query_fits ns g = small g && nat_le (length (met [] g)) 32 && nat_le (term.size (goal_form (numbered [] g))) 256 && room_for ns g
+query_fits ns g =
+    small g && nat_le (length (met [] g)) 32 && nat_le (term.size (goal_form (numbered [] g))) 256 && room_for ns g
 
 -- the same of a stack of terms, of which the last stands on top; names enter from the bottom to the top
 abbrev pub small_stack : List Written → Bool

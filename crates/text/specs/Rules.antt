@@ -1,5 +1,6 @@
 -- What a text gives: a rule or a query in a row of nodes, or why it is refused.
-use Rattle.std.specs.Prelude.{◌≡◌, ℕ, suc, ◌<◌, Bool, true, false, cond, List, [], length, Some, None, Ok, Err, Option, Result}
+use Rattle.std.specs.Prelude.{◌≡◌, ℕ, suc, ◌<◌, Bool, true, false, cond, List, [], length, Some, None, Ok, Err, Option}
+use Rattle.std.specs.Prelude.{Result}
 use Rattle.terms.specs.declared.node.Node.{Node}
 use Rattle.terms.specs.BuiltIns.{is_built_in}
 use Rattle.terms.specs.Goals.{goal_form}
@@ -62,7 +63,8 @@ pub record RuleRefused (names : List (List ℕ)) (text : List ℕ) (fits : Bool)
   pub limits : rule_fits names (head_of sentence) (body_of sentence) ≡ fits
   pub told : fits ≡ true → head_fault (head_of sentence) (body_of sentence) ≡ fault
 
-abbrev pub RuleRead : List (List ℕ) → List ℕ → List (List ℕ) → List Node → List Span → Result RuleText TextFault → Type 0
+abbrev pub RuleRead : List (List ℕ) → List ℕ → List (List ℕ) → List Node → List Span
+    → Result RuleText TextFault → Type 0
 RuleRead names text after nodes spans (Ok r) = RuleIn names text after nodes spans r
 RuleRead names text after nodes spans (Err TooLong) = (1024 < length text) × (after ≡ names)
 RuleRead names text after nodes spans (Err (Grammar f)) =
@@ -86,7 +88,8 @@ pub record QueryRefused (names : List (List ℕ)) (text : List ℕ) : Type 0 whe
   pub is : Text a_query text (query goal)
   pub limits : query_fits names goal ≡ false
 
-abbrev pub QueryRead : List (List ℕ) → List ℕ → List (List ℕ) → List Node → List Span → Result QueryText TextFault → Type 0
+abbrev pub QueryRead : List (List ℕ) → List ℕ → List (List ℕ) → List Node → List Span
+    → Result QueryText TextFault → Type 0
 QueryRead names text after nodes spans (Ok r) = QueryIn names text after nodes spans r
 QueryRead names text after nodes spans (Err TooLong) = (1024 < length text) × (after ≡ names)
 QueryRead names text after nodes spans (Err (Grammar f)) =

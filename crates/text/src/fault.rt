@@ -1,6 +1,7 @@
 //! Why a text is not taken as a rule or query.
 
 ghost use Rattle.std.specs.Prelude.{◌≡◌};
+ghost use Rattle.text.specs.Faults.{limit_of};
 ghost use Rattle.text.specs.declared.fault.TextFault.TheVariants.{Grammar as in_grammar, Limit as in_limits};
 
 use names::NameFault;
@@ -36,6 +37,8 @@ pub enum TextFault {
 }
 
 impl From<NameFault> for LimitFault {
+    ghost from_gives = { λ e r. r ≡ limit_of e };
+
     fn from(fault: NameFault) -> LimitFault {
         match fault {
             NameFault::TooLong => LimitFault::LongName,

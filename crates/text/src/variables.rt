@@ -42,7 +42,8 @@ pub fn number(
     requires room { 32 ≤ vec_capacity variables.old }
     ensures same_room { vec_capacity variables.new ≡ vec_capacity variables.old }
     ensures still_few { vec_len variables.new ≤ 32 }
-    ensures value { Numbers (cuts text.now variables.old.items) (cut text.now start end) (cuts text.now variables.new.items) result }
+    ensures value { Numbers (cuts text.now variables.old.items) (cut text.now start end)
+        (cuts text.now variables.new.items) result }
 {
     let name = part(text, start, end);
     if let Some(known) = find(variables.as_slice(), text, name) {

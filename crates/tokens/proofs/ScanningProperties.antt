@@ -1,8 +1,12 @@
 -- What the definition of tokens finds at a place of a line: runs, signs and quoted names at once.
-use Rattle.std.proofs.Common.{◌≡◌, ℕ, zero, suc, ◌+◌, ◌-◌, ◌<◌, ◌≤◌, Bool, true, false, cond, ◌&&◌, List, [], ◌∷◌, ◌++◌, length, get_or, take, drop, Some, None, sym, refl, ap, ◌∙◌, append_assoc, append-nil, arith, length-drop, drop-drop}
+use Rattle.std.proofs.Common.{◌≡◌, ℕ, zero, suc, ◌+◌, ◌-◌, ◌<◌, ◌≤◌, Bool, true, false, cond, ◌&&◌, List, [], ◌∷◌, ◌++◌}
+use Rattle.std.proofs.Common.{length, get_or, take, drop, Some, None, sym, refl, ap, ◌∙◌, append_assoc, append-nil}
+use Rattle.std.proofs.Common.{arith, length-drop, drop-drop}
 use Rattle.tokens.specs.declared.kind.Kind.{Kind}
 use Rattle.tokens.specs.Bytes.{past, longest, same, word, digit, symbol}
-use Rattle.tokens.specs.Token.{Token, name, variable, integer, run, Part, small_run, capital_run, digits, symbols, single, Edge, start_as, advance, ended, Scan, nothing, got, scanned, or_else, scan_from, scan, minus_bytes}
+use Rattle.tokens.specs.Token.{Token, name, variable, integer, run, Part, small_run, capital_run, digits, symbols}
+use Rattle.tokens.specs.Token.{single, Edge, start_as, advance, ended, Scan, nothing, got, scanned, or_else, scan_from}
+use Rattle.tokens.specs.Token.{scan, minus_bytes}
 use Rattle.tokens.specs.Scanning.{head_kind, digit_at}
 use Rattle.tokens.proofs.BytesProperties.{drop_here, head_here, false_true}
 

@@ -1,7 +1,9 @@
 -- What the code that finds tokens answers, by the definition of tokens.
-use Rattle.std.specs.Prelude.{◌≡◌, ℕ, ◌+◌, ◌-◌, ◌<◌, ◌≤◌, Bool, true, false, cond, List, [], ◌∷◌, length, take, drop, Ok, Err, Result}
+use Rattle.std.specs.Prelude.{◌≡◌, ℕ, ◌+◌, ◌-◌, ◌<◌, ◌≤◌, Bool, true, false, cond, List, [], ◌∷◌, length, take, drop}
+use Rattle.std.specs.Prelude.{Ok, Err, Result}
 use Rattle.tokens.specs.declared.kind.Kind.{Kind}
-use Rattle.tokens.specs.declared.kind.Kind.TheVariants.{Small, Capital, Digit, Symbol, Solo, Quote, Opening, Closing, Left, Right, Bar, Comma, Stop, Space, Stray}
+use Rattle.tokens.specs.declared.kind.Kind.TheVariants.{Small, Capital, Digit, Symbol, Solo, Quote, Opening, Closing}
+use Rattle.tokens.specs.declared.kind.Kind.TheVariants.{Left, Right, Bar, Comma, Stop, Space, Stray}
 use Rattle.tokens.specs.declared.scan.Token.{Token}
 use Rattle.tokens.specs.declared.scan.Token.TheVariants as code
 use Rattle.tokens.specs.declared.scan.Found.{Found}
@@ -116,18 +118,22 @@ pub record Stands (line : List ℕ) (f : Found) : Type 0 where
 abbrev pub StartsAs : List ℕ → ℕ → Result Found TokenFault → Type 0
 StartsAs line start (Ok f) = Stands line f × (f.start ≡ start)
 StartsAs line start (Err (fault.Stray p)) = (p ≡ start) × (p < length line) × (head_kind (drop p line) ≡ Stray)
-StartsAs line start (Err (fault.Unclosed p)) = (p ≡ length line) × (spec.scan spec.spaced (drop start line) ≡ spec.endless)
+StartsAs line start (Err (fault.Unclosed p)) =
+    (p ≡ length line) × (spec.scan spec.spaced (drop start line) ≡ spec.endless)
 
 -- the token behind the spaces at a place
 abbrev pub TokenRead : List ℕ → ℕ → Result Found TokenFault → Type 0
 TokenRead line pos (Ok f) = Stands line f × (drop f.start line ≡ from line pos) × (pos ≤ length line → pos ≤ f.start)
-TokenRead line pos (Err (fault.Stray p)) = (drop p line ≡ from line pos) × (pos ≤ p) × (p < length line) × (head_kind (drop p line) ≡ Stray)
+TokenRead line pos (Err (fault.Stray p)) =
+    (drop p line ≡ from line pos) × (pos ≤ p) × (p < length line) × (head_kind (drop p line) ≡ Stray)
 TokenRead line pos (Err (fault.Unclosed p)) = (p ≡ length line) × (spec.scan spec.spaced (from line pos) ≡ spec.endless)
 
 -- behind the quote that closes a name whose inside begins at a place, and its bytes
 abbrev pub QuoteRead : List ℕ → ℕ → Result ℕ TokenFault → Type 0
 QuoteRead line pos (Ok e) =
     (pos < e) × (e ≤ length line)
-    × (spec.scan_from (spec.inside []) (drop pos line) ≡ spec.got (spec.name (undouble false (take (e - 1 - pos) (drop pos line)))) (drop e line))
+    × (spec.scan_from (spec.inside []) (drop pos line)
+    ≡ spec.got (spec.name (undouble false (take (e - 1 - pos) (drop pos line)))) (drop e line))
 QuoteRead line pos (Err (fault.Stray p)) = ⊥
-QuoteRead line pos (Err (fault.Unclosed p)) = (p ≡ length line) × (spec.scan_from (spec.inside []) (drop pos line) ≡ spec.endless)
+QuoteRead line pos (Err (fault.Unclosed p)) =
+    (p ≡ length line) × (spec.scan_from (spec.inside []) (drop pos line) ≡ spec.endless)

@@ -1,7 +1,8 @@
 -- Tokens: what stands at the front of the bytes, and the rows of tokens that bytes are.
 use Rattle.std.specs.Prelude.{◌≡◌, ℕ, Bool, true, false, cond, ◌&&◌, List, [], ◌∷◌, ◌++◌, Some, None, Option}
 use Rattle.tokens.specs.declared.kind.Kind.{Kind}
-use Rattle.tokens.specs.declared.kind.Kind.TheVariants.{Small, Capital, Digit, Symbol, Solo, Quote, Opening, Closing, Left, Right, Bar, Comma, Stop, Space, Stray}
+use Rattle.tokens.specs.declared.kind.Kind.TheVariants.{Small, Capital, Digit, Symbol, Solo, Quote, Opening, Closing}
+use Rattle.tokens.specs.declared.kind.Kind.TheVariants.{Left, Right, Bar, Comma, Stop, Space, Stray}
 use Rattle.tokens.specs.Bytes.{class, word, digit, symbol, quote, space, same}
 
 -- A name has its bytes without quotes. An opening bracket is joined if no space parts it from the token before.
@@ -82,7 +83,8 @@ advance (small_run bs) c = cond (word c) (Some (small_run (bs ++ c ∷ []))) Non
 advance (capital_run bs) c = cond (word c) (Some (capital_run (bs ++ c ∷ []))) None
 advance (digits bs) c = cond (digit c) (Some (digits (bs ++ c ∷ []))) None
 advance (symbols bs) c =
-    cond (symbol c) (Some (symbols (bs ++ c ∷ []))) (cond (same bs minus_bytes && digit c) (Some (digits (bs ++ c ∷ []))) None)
+    cond (symbol c) (Some (symbols (bs ++ c ∷ [])))
+    (cond (same bs minus_bytes && digit c) (Some (digits (bs ++ c ∷ []))) None)
 advance (inside bs) c = cond (quote c) (Some (closed bs)) (Some (inside (bs ++ c ∷ [])))
 advance (closed bs) c = cond (quote c) (Some (inside (bs ++ c ∷ []))) None
 advance (single t) c = None
@@ -124,8 +126,10 @@ scan e (c ∷ s) = or_else (start e c) nothing (λ q. scan_from q s)
 -- the bytes, behind such an edge, are this row of tokens, spaces between them
 pub data Row : Edge → List ℕ → List Token → Type 0 where
   last : {e : Edge} {s : List ℕ} {t : Token} → scan e s ≡ got t [] → Row e s (t ∷ [])
-  next : {e : Edge} {s : List ℕ} {t : Token} {c : ℕ} {r : List ℕ} {ts : List Token} → scan e s ≡ got t (c ∷ r) → Row joined (c ∷ r) ts → Row e s (t ∷ ts)
-  gap : {e : Edge} {c : ℕ} {s : List ℕ} {ts : List Token} → may_part e ≡ true → space c ≡ true → Row spaced s ts → Row e (c ∷ s) ts
+  next : {e : Edge} {s : List ℕ} {t : Token} {c : ℕ} {r : List ℕ} {ts : List Token}
+      → scan e s ≡ got t (c ∷ r) → Row joined (c ∷ r) ts → Row e s (t ∷ ts)
+  gap : {e : Edge} {c : ℕ} {s : List ℕ} {ts : List Token}
+      → may_part e ≡ true → space c ≡ true → Row spaced s ts → Row e (c ∷ s) ts
 
 pub data IsRow (s : List ℕ) : Type 0 where
   a_row : {ts : List Token} → Row first s ts → IsRow s

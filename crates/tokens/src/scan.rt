@@ -4,7 +4,8 @@ ghost use Rattle.std.specs.Prelude.{◌≡◌, ◌+◌, ◌^◌, ◌<◌, ◌≤
 ghost use Rattle.tokens.specs.Bytes.{in_run, past, same};
 ghost use Rattle.tokens.specs.declared.kind.Kind.TheVariants.{Symbol as a_symbol, Quote as a_quote, Space as a_space};
 ghost use Rattle.tokens.specs.Token.{neck_bytes, minus_bytes};
-ghost use Rattle.tokens.specs.Scanning.{head_kind, Inside, QuoteRead, TokenRead, StartsAs, Stands, RunKind, digit_at, quote_at};
+ghost use Rattle.tokens.specs.Scanning.{head_kind, Inside, QuoteRead, TokenRead, StartsAs, Stands, RunKind, digit_at};
+ghost use Rattle.tokens.specs.Scanning.{quote_at};
 
 use crate::kind::{Kind, Run, in_run, kind_of};
 
@@ -192,7 +193,7 @@ fn mark<'a>(token: Token<'a>, start: usize) -> Found<'a>
 
 // A run of bytes: a word, a variable or an integer without sign.
 fn run_token<'a>(line: &'a [u8], start: usize) -> Found<'a>
-    requires { (start < length line.now) × (RunKind (head_kind (drop start line.now))) }
+    requires { (start < length line.now) × RunKind (head_kind (drop start line.now)) }
     ensures { Stands line.now result × (result.start ≡ start) }
 {
     match kind_at(line, start) {
@@ -225,7 +226,7 @@ fn run_token<'a>(line: &'a [u8], start: usize) -> Found<'a>
 
 // The token that begins at `start`, where no space stands.
 fn token_at<'a>(line: &'a [u8], start: usize) -> Result<Found<'a>, TokenFault>
-    requires { (start < length line.now) × ((head_kind (drop start line.now) ≢ a_space)) }
+    requires { (start < length line.now) × (head_kind (drop start line.now) ≢ a_space) }
     ensures { StartsAs line.now start result }
 {
     match kind_at(line, start) {

@@ -1,5 +1,6 @@
 -- Well-formed bindings: together and in parts, what they leave unbound, and that they agree with themselves.
-use Rattle.std.proofs.Common.{◌≡◌, ℕ, ◌+◌, ◌≤◌, true, cond, eqb, List, [], ◌∷◌, ◌++◌, length, sym, refl, ap, ◌∙◌, subst, inl, inr, arith}
+use Rattle.std.proofs.Common.{◌≡◌, ℕ, ◌+◌, ◌≤◌, true, cond, eqb, List, [], ◌∷◌, ◌++◌, length, sym, refl, ap, ◌∙◌, subst}
+use Rattle.std.proofs.Common.{inl, inr, arith}
 use Rattle.std.proofs.lemmas.Bool.{eq-eqb, ne_eqb, cond_both}
 use Rattle.terms.specs.Term.{Term, Terms, var, app}
 use Rattle.unification.specs.Substitution.{Sub, inst, one, bind, Bindings, apply, applys, domain, All, Alls, In, lacks}

@@ -1,16 +1,18 @@
 -- Any count of variables that suffices gives the same answer.
-use Rattle.std.proofs.Common.{◌≡◌, ℕ, zero, suc, ◌<◌, ◌≤◌, cond, List, [], ◌∷◌, ◌++◌, length, refl, ap, ◌∙◌, ap₂, inl, inr, arith}
+use Rattle.std.proofs.Common.{◌≡◌, ℕ, zero, suc, ◌<◌, ◌≤◌, cond, List, [], ◌∷◌, ◌++◌, length, refl, ap, ◌∙◌, ap₂, inl}
+use Rattle.std.proofs.Common.{inr, arith}
 use mathlib.Core.Option.{none}
 use Rattle.std.proofs.lemmas.Bool.{cases_lt}
 use Rattle.terms.specs.Term.{Term, Terms, var, int, app, nil, cons}
 use Rattle.terms.specs.Goals.{same}
 use Rattle.unification.specs.Substitution.{Sub, Bindings, applys, All, Alls, In, vars}
-use Rattle.unification.specs.Unifying.{Answer, before, Rest, after, unify_t, unify_ts, rest, unify_at, unify, unifys}
+use Rattle.unification.specs.Unifying.{Answer, before, Rest, after, unify_term, unify_terms, rest, unify_at, unify}
+use Rattle.unification.specs.Unifying.{unifys}
 use Rattle.unification.specs.Chain.{left}
 use Rattle.unification.proofs.VariablesProperties.{all_left, all_right}
 use Rattle.unification.proofs.ChainProperties.{chain_length, chain_alls}
 use Rattle.unification.proofs.SolvedProperties.{tuple, Unifies, Solved, joined, apart}
-use Rattle.unification.proofs.UnifyingProperties.{Solves, unify_t_solved, rest_solved}
+use Rattle.unification.proofs.UnifyingProperties.{Solves, unify_term_solved, rest_solved}
 
 -- two ways to go on agree with fewer variables
 abbrev Agree : List ℕ → Rest → Rest → Type 0
@@ -29,35 +31,35 @@ module _ (vs : List ℕ) (R S : Rest) (good : Solves vs R) (agree : Agree vs R S
       (agree (left vs τ) (applys τ ps) (applys τ qs) (omega arith) (chain_alls vs τ c ps a) (chain_alls vs τ c qs b))
 
   mutual
-    unify_t_same : (s t : Term) → All (In vs) s → All (In vs) t → unify_t R s t ≡ unify_t S s t
-    unify_t_same (var x) t a b = refl
-    unify_t_same (int i) (var y) a b = refl
-    unify_t_same (int i) (int j) a b = refl
-    unify_t_same (int i) (app g qs) a b = refl
-    unify_t_same (app f ps) (var y) a b = refl
-    unify_t_same (app f ps) (int j) a b = refl
-    unify_t_same (app f ps) (app g qs) a b = ap (λ r. cond (same f g) r none) (unify_ts_same ps qs a b)
+    unify_term_same : (s t : Term) → All (In vs) s → All (In vs) t → unify_term R s t ≡ unify_term S s t
+    unify_term_same (var x) t a b = refl
+    unify_term_same (int i) (var y) a b = refl
+    unify_term_same (int i) (int j) a b = refl
+    unify_term_same (int i) (app g qs) a b = refl
+    unify_term_same (app f ps) (var y) a b = refl
+    unify_term_same (app f ps) (int j) a b = refl
+    unify_term_same (app f ps) (app g qs) a b = ap (λ r. cond (same f g) r none) (unify_terms_same ps qs a b)
 
-    unify_ts_same : (ps qs : Terms) → Alls (In vs) ps → Alls (In vs) qs → unify_ts R ps qs ≡ unify_ts S ps qs
-    unify_ts_same nil nil a b = refl
-    unify_ts_same nil (cons q qs) a b = refl
-    unify_ts_same (cons p ps) nil a b = refl
-    unify_ts_same (cons p ps) (cons q qs) a b =
-        after_same ps qs (unify_ts R ps qs) (unify_t_solved vs R good p q a.0 b.0) a.1 b.1
-        ∙ ap₂ (after S ps qs) (unify_ts_same ps qs a.1 b.1) (unify_t_same p q a.0 b.0)
+    unify_terms_same : (ps qs : Terms) → Alls (In vs) ps → Alls (In vs) qs → unify_terms R ps qs ≡ unify_terms S ps qs
+    unify_terms_same nil nil a b = refl
+    unify_terms_same nil (cons q qs) a b = refl
+    unify_terms_same (cons p ps) nil a b = refl
+    unify_terms_same (cons p ps) (cons q qs) a b =
+        after_same ps qs (unify_terms R ps qs) (unify_term_solved vs R good p q a.0 b.0) a.1 b.1
+        ∙ ap₂ (after S ps qs) (unify_terms_same ps qs a.1 b.1) (unify_term_same p q a.0 b.0)
 
 rest_same : (m n : ℕ) (vs : List ℕ) (ps qs : Terms) → length vs < m → length vs < n
     → Alls (In vs) ps → Alls (In vs) qs → rest m ps qs ≡ rest n ps qs
 rest_same zero n vs ps qs k l a b = absurd (omega arith)
 rest_same (suc m) zero vs ps qs k l a b = absurd (omega arith)
 rest_same (suc m) (suc n) vs ps qs k l a b =
-    unify_ts_same vs (rest m) (rest n) (λ ws ps' qs' h. rest_solved m ws ps' qs' (omega arith))
+    unify_terms_same vs (rest m) (rest n) (λ ws ps' qs' h. rest_solved m ws ps' qs' (omega arith))
     (λ ws ps' qs' h. rest_same m n ws ps' qs' (omega arith) (omega arith)) ps qs a b
 
 unify_at_same : (m n : ℕ) (vs : List ℕ) (s t : Term) → length vs ≤ m → length vs ≤ n
     → All (In vs) s → All (In vs) t → unify_at m s t ≡ unify_at n s t
 unify_at_same m n vs s t k l a b =
-    unify_t_same vs (rest m) (rest n) (λ ws ps qs h. rest_solved m ws ps qs (omega arith))
+    unify_term_same vs (rest m) (rest n) (λ ws ps qs h. rest_solved m ws ps qs (omega arith))
     (λ ws ps qs h. rest_same m n ws ps qs (omega arith) (omega arith)) s t a b
 
 pub unify_at_enough : (s t : Term) (vs : List ℕ) (n : ℕ) → All (In vs) s → All (In vs) t → length vs ≤ n
@@ -77,4 +79,4 @@ rest_enough (suc n) vs ps qs l a b = unify_at_enough (tuple ps) (tuple qs) vs n 
 pub unify_solved : (s t : Term) → Solved (vars s ++ vars t) (Unifies s t) (unify s t)
 unify_solved s t =
     let n = length (vars s ++ vars t) in
-    unify_t_solved (vars s ++ vars t) (rest n) (rest_solved n) s t (all_left s t) (all_right s t)
+    unify_term_solved (vars s ++ vars t) (rest n) (rest_solved n) s t (all_left s t) (all_right s t)

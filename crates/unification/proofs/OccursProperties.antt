@@ -1,6 +1,7 @@
 -- The occurs check: a term that lacks x has only other variables, and one that does not is no smaller than x under it.
 use Rattle.std.proofs.Common.{◌≡◌, ℕ, ◌≤◌, true, false, eqb, List, sym, refl, ap, subst, inl, inr, arith}
-use Rattle.std.proofs.lemmas.Bool.{eqb-true, ne_eqb, not-true, not-false, not_from_false, and_parts, and_from, and_cases}
+use Rattle.std.proofs.lemmas.Bool.{eqb-true, ne_eqb, not-true, not-false, not_from_false, and_parts, and_from}
+use Rattle.std.proofs.lemmas.Bool.{and_cases}
 use Rattle.terms.specs.Term.{Term, Terms, var, int, app, nil, cons, size, sizes}
 use Rattle.unification.specs.Substitution.{Sub, inst, insts, All, Alls, In, lacks, lackss}
 

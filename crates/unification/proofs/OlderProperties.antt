@@ -5,7 +5,8 @@ use Rattle.std.proofs.lemmas.Bool.{eqb-false, ltb-true, ltb-false, cond_both}
 use Rattle.terms.specs.Term.{Term, Terms, var, int, app, nil, cons}
 use Rattle.terms.specs.Goals.{same}
 use Rattle.unification.specs.Substitution.{bind, Bindings, apply, applys, lackss, vars}
-use Rattle.unification.specs.Unifying.{same_int, Answer, before, unify_var, Rest, after, unify_t, unify_ts, rest, unify}
+use Rattle.unification.specs.Unifying.{same_int, Answer, before, unify_var, Rest, after, unify_term, unify_terms, rest}
+use Rattle.unification.specs.Unifying.{unify}
 use Rattle.unification.specs.Under.{under}
 use Rattle.unification.specs.Chain.{Olders}
 
@@ -46,30 +47,30 @@ module _ (R : Rest) (good : (ps qs : Terms) → Aged (R ps qs)) where
       before_aged τ (R (applys τ ps) (applys τ qs)) b (good (applys τ ps) (applys τ qs))
 
   mutual
-    unify_t_aged : (s t : Term) → Aged (unify_t R s t)
-    unify_t_aged (var x) t = unify_var_aged x t
-    unify_t_aged (int i) (var y) = unify_var_aged y (int i)
-    unify_t_aged (int i) (int j) = cond_both (same_int i j) (some []) none Aged (λ e. tt) (λ e. tt)
-    unify_t_aged (int i) (app g qs) = tt
-    unify_t_aged (app f ps) (var y) = unify_var_aged y (app f ps)
-    unify_t_aged (app f ps) (int j) = tt
-    unify_t_aged (app f ps) (app g qs) =
-        cond_both (same f g) (unify_ts R ps qs) none Aged (λ e. unify_ts_aged ps qs) (λ e. tt)
+    unify_term_aged : (s t : Term) → Aged (unify_term R s t)
+    unify_term_aged (var x) t = unify_var_aged x t
+    unify_term_aged (int i) (var y) = unify_var_aged y (int i)
+    unify_term_aged (int i) (int j) = cond_both (same_int i j) (some []) none Aged (λ e. tt) (λ e. tt)
+    unify_term_aged (int i) (app g qs) = tt
+    unify_term_aged (app f ps) (var y) = unify_var_aged y (app f ps)
+    unify_term_aged (app f ps) (int j) = tt
+    unify_term_aged (app f ps) (app g qs) =
+        cond_both (same f g) (unify_terms R ps qs) none Aged (λ e. unify_terms_aged ps qs) (λ e. tt)
 
-    unify_ts_aged : (ps qs : Terms) → Aged (unify_ts R ps qs)
-    unify_ts_aged nil nil = tt
-    unify_ts_aged nil (cons q qs) = tt
-    unify_ts_aged (cons p ps) nil = tt
-    unify_ts_aged (cons p ps) (cons q qs) =
-        after_aged ps qs (unify_ts R ps qs) (unify_t R p q) (unify_ts_aged ps qs) (unify_t_aged p q)
+    unify_terms_aged : (ps qs : Terms) → Aged (unify_terms R ps qs)
+    unify_terms_aged nil nil = tt
+    unify_terms_aged nil (cons q qs) = tt
+    unify_terms_aged (cons p ps) nil = tt
+    unify_terms_aged (cons p ps) (cons q qs) =
+        after_aged ps qs (unify_terms R ps qs) (unify_term R p q) (unify_terms_aged ps qs) (unify_term_aged p q)
 
 rest_aged : (n : ℕ) (ps qs : Terms) → Aged (rest n ps qs)
 rest_aged zero ps qs = tt
-rest_aged (suc n) ps qs = unify_ts_aged (rest n) (rest_aged n) ps qs
+rest_aged (suc n) ps qs = unify_terms_aged (rest n) (rest_aged n) ps qs
 
 pub under_older : (σ : Bindings) (s t : Term) → Olders σ → (σ' : Bindings) → under σ s t ≡ some σ' → Olders σ'
 under_older σ s t a σ' e =
     let p = apply σ s in
     let q = apply σ t in
     let n = length (vars p ++ vars q) in
-    subst Aged e (before_aged σ (unify p q) a (unify_t_aged (rest n) (rest_aged n) p q))
+    subst Aged e (before_aged σ (unify p q) a (unify_term_aged (rest n) (rest_aged n) p q))

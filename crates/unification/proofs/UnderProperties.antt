@@ -1,17 +1,18 @@
 -- Unification under bindings, step by step: no count of variables is left in these laws.
-use Rattle.std.proofs.Common.{◌≡◌, ℕ, suc, Bool, true, false, cond, List, [], ◌∷◌, ◌++◌, length, ℤ, sym, refl, ap, ◌∙◌, ap₂, append_assoc, append-nil, arith}
+use Rattle.std.proofs.Common.{◌≡◌, ℕ, suc, Bool, true, false, cond, List, [], ◌∷◌, ◌++◌, length, ℤ, sym, refl, ap, ◌∙◌}
+use Rattle.std.proofs.Common.{ap₂, append_assoc, append-nil, arith}
 use mathlib.Core.Option.{none, some}
 use Rattle.terms.specs.Term.{Term, Terms, int, app, nil, cons, count}
 use Rattle.terms.specs.Goals.{same}
 use Rattle.unification.specs.Substitution.{Sub, insts, Bindings, apply, applys, All, In, vars}
-use Rattle.unification.specs.Unifying.{same_int, Answer, before, after, unify_ts, rest, unify_at, unify, unifys}
+use Rattle.unification.specs.Unifying.{same_int, Answer, before, after, unify_terms, rest, unify_at, unify, unifys}
 use Rattle.unification.specs.Under.{and_then, under, unders}
 use Rattle.unification.specs.Chain.{left}
 use Rattle.unification.proofs.VariablesProperties.{all_left, all_right}
 use Rattle.unification.proofs.BindingsProperties.{as_sub, apply_int, apply_app, applys_nil, applys_cons, applys_append}
 use Rattle.unification.proofs.ChainProperties.{chain_length, chain_alls}
 use Rattle.unification.proofs.SolvedProperties.{tuple, Unifies, Solved, joined, apart}
-use Rattle.unification.proofs.UnifyingProperties.{unify_t_solved, rest_solved}
+use Rattle.unification.proofs.UnifyingProperties.{unify_term_solved, rest_solved}
 use Rattle.unification.proofs.CountProperties.{unify_at_enough, rest_enough, unify_solved}
 
 before_nothing : (o : Answer) → before [] o ≡ o
@@ -26,7 +27,7 @@ before_before σ τ (some ρ) = ap some (sym (append_assoc σ τ ρ))
 pub unifys_cons : (p q : Term) (ps qs : Terms)
     → unifys (cons p ps) (cons q qs) ≡ and_then (unify p q) (λ σ. before σ (unifys (applys σ ps) (applys σ qs)))
 unifys_cons p q ps qs =
-    go (unify_at n p q) (unify_t_solved vs (rest n) (rest_solved n) p q a.0 b.0)
+    go (unify_at n p q) (unify_term_solved vs (rest n) (rest_solved n) p q a.0 b.0)
     ∙ ap (λ o. and_then o (λ σ. before σ (unifys (applys σ ps) (applys σ qs))))
     (unify_at_enough p q vs n a.0 b.0 (omega arith))
   where
@@ -42,7 +43,7 @@ unifys_cons p q ps qs =
     b : All (In vs) (tuple (cons q qs))
     b = all_right (tuple (cons p ps)) (tuple (cons q qs))
 
-    go : (o : Answer) → Solved vs (Unifies p q) o → after (rest n) ps qs (unify_ts (rest n) ps qs) o
+    go : (o : Answer) → Solved vs (Unifies p q) o → after (rest n) ps qs (unify_terms (rest n) ps qs) o
         ≡ and_then o (λ σ. before σ (unifys (applys σ ps) (applys σ qs)))
     go none s = refl
     go (some []) s =

@@ -1,12 +1,13 @@
 -- Every answer of unification is right, by induction on the count of variables and then on the terms.
-use Rattle.std.proofs.Common.{◌≡◌, ℕ, zero, suc, ◌<◌, false, cond, eqb, ltb, List, [], ◌∷◌, ◌++◌, length, ℤ, sym, refl, ap, ◌∙◌, arith}
+use Rattle.std.proofs.Common.{◌≡◌, ℕ, zero, suc, ◌<◌, false, cond, eqb, ltb, List, [], ◌∷◌, ◌++◌, length, ℤ, sym, refl}
+use Rattle.std.proofs.Common.{ap, ◌∙◌, arith}
 use mathlib.Core.Option.{none, some}
 use Rattle.std.proofs.lemmas.Bool.{eqb-true, eqb-false, ne_eqb, both_ways, not_from_false, cond_both}
 use Rattle.terms.specs.Term.{Term, Terms, var, int, app, nil, cons}
 use Rattle.terms.specs.Goals.{same}
 use Rattle.terms.proofs.TablesProperties.{same_true, same_eq}
 use Rattle.unification.specs.Substitution.{Sub, inst, bind, Bindings, apply, applys, All, Alls, In, lackss}
-use Rattle.unification.specs.Unifying.{same_int, Answer, before, unify_var, Rest, after, unify_t, unify_ts, rest}
+use Rattle.unification.specs.Unifying.{same_int, Answer, before, unify_var, Rest, after, unify_term, unify_terms, rest}
 use Rattle.unification.specs.Chain.{Chain, left, Follows}
 use Rattle.unification.proofs.BindingsProperties.{as_sub, apply_inst, apply_app, inst_append}
 use Rattle.unification.proofs.BindingsProperties.{follows_apply, follows_append}
@@ -93,26 +94,26 @@ int_solved {vs} i j =
 
 module _ (vs : List ℕ) (R : Rest) (good : Solves vs R) where
   mutual
-    pub unify_t_solved : (s t : Term) → All (In vs) s → All (In vs) t → Solved vs (Unifies s t) (unify_t R s t)
-    unify_t_solved (var x) t a b = unify_var_solved vs x t a b
-    unify_t_solved (int i) (var y) a b = solved_sym (var y) (int i) (unify_var_solved vs y (int i) b a)
-    unify_t_solved (int i) (int j) a b = int_solved i j
-    unify_t_solved (int i) (app g qs) a b = apart (λ θ e. let z : ◌≡◌ {A = ℕ} 0 1 = cc in omega arith)
-    unify_t_solved (app f ps) (var y) a b = solved_sym (var y) (app f ps) (unify_var_solved vs y (app f ps) b a)
-    unify_t_solved (app f ps) (int j) a b = apart (λ θ e. let z : ◌≡◌ {A = ℕ} 0 1 = cc in omega arith)
-    unify_t_solved (app f ps) (app g qs) a b = name_solved f g ps qs (unify_ts_solved ps qs a b)
+    pub unify_term_solved : (s t : Term) → All (In vs) s → All (In vs) t → Solved vs (Unifies s t) (unify_term R s t)
+    unify_term_solved (var x) t a b = unify_var_solved vs x t a b
+    unify_term_solved (int i) (var y) a b = solved_sym (var y) (int i) (unify_var_solved vs y (int i) b a)
+    unify_term_solved (int i) (int j) a b = int_solved i j
+    unify_term_solved (int i) (app g qs) a b = apart (λ θ e. let z : ◌≡◌ {A = ℕ} 0 1 = cc in omega arith)
+    unify_term_solved (app f ps) (var y) a b = solved_sym (var y) (app f ps) (unify_var_solved vs y (app f ps) b a)
+    unify_term_solved (app f ps) (int j) a b = apart (λ θ e. let z : ◌≡◌ {A = ℕ} 0 1 = cc in omega arith)
+    unify_term_solved (app f ps) (app g qs) a b = name_solved f g ps qs (unify_terms_solved ps qs a b)
 
-    unify_ts_solved : (ps qs : Terms) → Alls (In vs) ps → Alls (In vs) qs
-        → Solved vs (Unifies (tuple ps) (tuple qs)) (unify_ts R ps qs)
-    unify_ts_solved nil nil a b = joined tt refl (λ θ e. tt)
-    unify_ts_solved nil (cons q qs) a b = apart (λ θ e. let z : ◌≡◌ {A = ℕ} 0 1 = cc in omega arith)
-    unify_ts_solved (cons p ps) nil a b = apart (λ θ e. let z : ◌≡◌ {A = ℕ} 0 1 = cc in omega arith)
-    unify_ts_solved (cons p ps) (cons q qs) a b =
-        after_solved vs p q ps qs R good (unify_t_solved p q a.0 b.0) (unify_ts_solved ps qs a.1 b.1)
+    unify_terms_solved : (ps qs : Terms) → Alls (In vs) ps → Alls (In vs) qs
+        → Solved vs (Unifies (tuple ps) (tuple qs)) (unify_terms R ps qs)
+    unify_terms_solved nil nil a b = joined tt refl (λ θ e. tt)
+    unify_terms_solved nil (cons q qs) a b = apart (λ θ e. let z : ◌≡◌ {A = ℕ} 0 1 = cc in omega arith)
+    unify_terms_solved (cons p ps) nil a b = apart (λ θ e. let z : ◌≡◌ {A = ℕ} 0 1 = cc in omega arith)
+    unify_terms_solved (cons p ps) (cons q qs) a b =
+        after_solved vs p q ps qs R good (unify_term_solved p q a.0 b.0) (unify_terms_solved ps qs a.1 b.1)
         a.1 b.1
 
 pub rest_solved : (n : ℕ) (vs : List ℕ) (ps qs : Terms) → length vs < n → Alls (In vs) ps → Alls (In vs) qs
     → Solved vs (Unifies (tuple ps) (tuple qs)) (rest n ps qs)
 rest_solved zero vs ps qs l a b = absurd (omega arith)
 rest_solved (suc n) vs ps qs l a b =
-    unify_ts_solved vs (rest n) (λ ws ps' qs' k. rest_solved n ws ps' qs' (omega arith)) ps qs a b
+    unify_terms_solved vs (rest n) (λ ws ps' qs' k. rest_solved n ws ps' qs' (omega arith)) ps qs a b

@@ -36,32 +36,32 @@ after rest ps qs r (some []) = r
 after rest ps qs r (some (b ∷ σ)) = before (b ∷ σ) (rest (applys (b ∷ σ) ps) (applys (b ∷ σ) qs))
 
 abbrev mutual
-  pub unify_t : Rest → Term → Term → Answer
-  unify_t rest (var x) t = unify_var x t
-  unify_t rest (int i) (var y) = unify_var y (int i)
-  unify_t rest (int i) (int j) = cond (same_int i j) (some []) none
-  unify_t rest (int i) (app g qs) = none
-  unify_t rest (app f ps) (var y) = unify_var y (app f ps)
-  unify_t rest (app f ps) (int j) = none
-  unify_t rest (app f ps) (app g qs) = let r = unify_ts rest ps qs in cond (same f g) r none
+  pub unify_term : Rest → Term → Term → Answer
+  unify_term rest (var x) t = unify_var x t
+  unify_term rest (int i) (var y) = unify_var y (int i)
+  unify_term rest (int i) (int j) = cond (same_int i j) (some []) none
+  unify_term rest (int i) (app g qs) = none
+  unify_term rest (app f ps) (var y) = unify_var y (app f ps)
+  unify_term rest (app f ps) (int j) = none
+  unify_term rest (app f ps) (app g qs) = let r = unify_terms rest ps qs in cond (same f g) r none
 
-  pub unify_ts : Rest → Terms → Terms → Answer
-  unify_ts rest nil nil = some []
-  unify_ts rest nil (cons q qs) = none
-  unify_ts rest (cons p ps) nil = none
-  unify_ts rest (cons p ps) (cons q qs) = let r = unify_ts rest ps qs in after rest ps qs r (unify_t rest p q)
+  pub unify_terms : Rest → Terms → Terms → Answer
+  unify_terms rest nil nil = some []
+  unify_terms rest nil (cons q qs) = none
+  unify_terms rest (cons p ps) nil = none
+  unify_terms rest (cons p ps) (cons q qs) = let r = unify_terms rest ps qs in after rest ps qs r (unify_term rest p q)
 
 -- with n variables at most, one of which has been bound
 abbrev pub rest : ℕ → Rest
 rest zero ps qs = none
-rest (suc n) ps qs = unify_ts (rest n) ps qs
+rest (suc n) ps qs = unify_terms (rest n) ps qs
 
 -- with n variables at most
 abbrev pub unify_at : ℕ → Term → Term → Answer
-unify_at n s t = unify_t (rest n) s t
+unify_at n s t = unify_term (rest n) s t
 
 abbrev pub unify : Term → Term → Answer
 unify s t = unify_at (length (vars s ++ vars t)) s t
 
 abbrev pub unifys : Terms → Terms → Answer
-unifys ps qs = unify_ts (rest (length (varss ps ++ varss qs))) ps qs
+unifys ps qs = unify_terms (rest (length (varss ps ++ varss qs))) ps qs

@@ -1,5 +1,6 @@
 -- The text of a node's term by those of its arguments.
-use Rattle.std.proofs.Common.{◌≡◌, ℕ, ◌+◌, ◌<◌, ◌≤◌, true, List, [], ◌++◌, length, get_or, take, pos, Ok, Result, sym, ap, ◌∙◌, arith}
+use Rattle.std.proofs.Common.{◌≡◌, ℕ, ◌+◌, ◌<◌, ◌≤◌, true, List, [], ◌++◌, length, get_or, take, pos, Ok, Result, sym}
+use Rattle.std.proofs.Common.{ap, ◌∙◌, arith}
 use Rattle.std.proofs.lemmas.List.{length-append, get_or_past, take_all}
 use Rattle.terms.specs.declared.node.Node.{Node}
 use Rattle.terms.specs.declared.node.Node.TheVariants.{App}
@@ -20,7 +21,8 @@ use Rattle.writer.specs.Shown.{firsts, firsts_all}
 use Rattle.writer.specs.Numbered.{numbered, all_numbered}
 use Rattle.writer.proofs.PutProperties.{puts_then, puts_same}
 use Rattle.writer.proofs.PiecesProperties.{app_parts}
-use Rattle.writer.proofs.NumberedProperties.{part_text, part_seen, part_text_more, part_seen_more, count_terms_at, size_all_numbered}
+use Rattle.writer.proofs.NumberedProperties.{part_text, part_seen, part_text_more, part_seen_more, count_terms_at}
+use Rattle.writer.proofs.NumberedProperties.{size_all_numbered}
 
 -- what a slice of the row reads
 pub read_as : (xs ys : List Node) (i : ℕ) (x : Node) → ys ≡ xs → get_or ys i no_node ≡ x → get_or xs i no_node ≡ x

@@ -1,5 +1,6 @@
 -- Writing one text and then another, and failing in between.
-use Rattle.std.proofs.Common.{◌≡◌, ℕ, ◌+◌, ◌<◌, ◌≤◌, true, false, List, [], ◌∷◌, ◌++◌, length, take, is_err, Ok, Err, vec_len, Result, sym, refl, ap, ◌∙◌, subst, append_assoc, append-nil, arith}
+use Rattle.std.proofs.Common.{◌≡◌, ℕ, ◌+◌, ◌<◌, ◌≤◌, true, false, List, [], ◌∷◌, ◌++◌, length, take, is_err, Ok, Err}
+use Rattle.std.proofs.Common.{vec_len, Result, sym, refl, ap, ◌∙◌, subst, append_assoc, append-nil, arith}
 use Rattle.std.proofs.lemmas.List.{length-append, length-take, take_all, take_at, take-take}
 use Rattle.std.proofs.lemmas.Bool.{leb-false, le-leb, lt-leb, false≢true}
 use Rattle.writer.specs.declared.fault.DoesNotFit.{DoesNotFit}

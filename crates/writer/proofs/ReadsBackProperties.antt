@@ -1,18 +1,22 @@
 -- Every term is shown with variables and integers that read as such, so that only its brackets count.
-use Rattle.std.proofs.Common.{◌≡◌, ℕ, zero, suc, ◌+◌, ◌/◌, ◌%◌, ◌<◌, ◌≤◌, Bool, true, false, cond, ◌&&◌, ◌||◌, eqb, leb, List, [], ◌∷◌, ◌++◌, ℤ, pos, negsuc, codes, refl, ap, ◌∙◌, arith}
+use Rattle.std.proofs.Common.{◌≡◌, ℕ, zero, suc, ◌+◌, ◌/◌, ◌%◌, ◌<◌, ◌≤◌, Bool, true, false, cond, ◌&&◌, ◌||◌, eqb, leb}
+use Rattle.std.proofs.Common.{List, [], ◌∷◌, ◌++◌, ℤ, pos, negsuc, codes, refl, ap, ◌∙◌, arith}
 use Rattle.std.specs.Fmt as std
 use Rattle.std.proofs.lemmas.Bool.{and_from, and_parts, or_left, or_right, le-leb, lt-ltb}
 use Rattle.tokens.specs.Bytes.{small, capital, digit, word}
 use Rattle.terms.specs.Term.{Term, Terms, var, int, app, nil, cons}
 use Rattle.grammar.specs.Written.{Writtens}
 use Rattle.writing.specs.Writing.{all, Spot, alone, form, others}
-use Rattle.writing.specs.ReadBack.{is_variable, is_digits, is_integer, opens, room, inside, readable_at, arguments_readable, others_readable}
+use Rattle.writing.specs.ReadBack.{is_variable, is_digits, is_integer, opens, room, inside, readable_at}
+use Rattle.writing.specs.ReadBack.{arguments_readable, others_readable}
 use Rattle.writing.proofs.ReadBackProperties.{query_reads_back, fact_reads_back, rule_reads_back}
 use Rattle.grammar.specs.Grammar.{brackets, a_rule}
 use Rattle.grammar.specs.Theorem.{judged}
-use Rattle.writer.specs.Shown.{decimal, integer_text, variable_text, place_in, firsts, as_written, all_as_written, shown}
+use Rattle.writer.specs.Shown.{decimal, integer_text, variable_text, place_in, firsts, as_written, all_as_written}
+use Rattle.writer.specs.Shown.{shown}
 use Rattle.writer.proofs.ShownProperties.{shown_before}
-use Rattle.writer.specs.ReadsBack.{depth_at, arguments_depth, others_depth, rule_seen, QueryReadsBack, FactReadsBack, RuleReadsBack}
+use Rattle.writer.specs.ReadsBack.{depth_at, arguments_depth, others_depth, rule_seen, QueryReadsBack, FactReadsBack}
+use Rattle.writer.specs.ReadsBack.{RuleReadsBack}
 
 digit_glyph : (d : ℕ) → d < 10 → digit (std.digit_glyph false d) ≡ true
 digit_glyph d l =

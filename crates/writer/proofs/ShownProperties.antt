@@ -1,12 +1,15 @@
 -- Places of variables, and that more variables behind them leave a term as it is written.
-use Rattle.std.proofs.Common.{◌≡◌, ℕ, suc, ◌+◌, ◌<◌, ◌≤◌, Bool, true, false, cond, eqb, ltb, List, [], ◌∷◌, ◌++◌, length, get_or, drop, ℤ, pos, negsuc, nat_abs, sym, refl, ap, ◌∙◌, inl, inr, append_assoc, append-nil, arith}
+use Rattle.std.proofs.Common.{◌≡◌, ℕ, suc, ◌+◌, ◌<◌, ◌≤◌, Bool, true, false, cond, eqb, ltb, List, [], ◌∷◌, ◌++◌}
+use Rattle.std.proofs.Common.{length, get_or, drop, ℤ, pos, negsuc, nat_abs, sym, refl, ap, ◌∙◌, inl, inr, append_assoc}
+use Rattle.std.proofs.Common.{append-nil, arith}
 use lib.Signed.{le_z}
 use Rattle.std.proofs.lemmas.List.{at_drop_more, at_drop_all}
 use Rattle.std.proofs.lemmas.Bool.{cases_Bool, eq-eqb, ne_eqb, ltb-true, ltb-false, lt-ltb, le-ltb, leb-false}
 use Rattle.terms.specs.Term.{Term, Terms, var, int, app, nil, cons}
 use Rattle.grammar.specs.Written as written
 use Rattle.writing.specs.Writing.{text}
-use Rattle.writer.specs.Shown.{place_in, with_variable, firsts, firsts_all, as_written, all_as_written, shown, integer_text, decimal}
+use Rattle.writer.specs.Shown.{place_in, with_variable, firsts, firsts_all, as_written, all_as_written, shown}
+use Rattle.writer.specs.Shown.{integer_text, decimal}
 use Rattle.writer.specs.Numbered.{numbered, all_numbered}
 
 pub place_in_goes : (xs : List ℕ) (v i : ℕ) → i < length xs → (get_or xs i 0 ≡ v → ⊥)

@@ -1,5 +1,6 @@
 -- A line of the code as its bytes, the variables seen and the limit, and what writing to it does.
-use Rattle.std.specs.Prelude.{◌≡◌, ℕ, ◌+◌, ◌<◌, Bool, cond, List, ◌++◌, length, take, is_ok, Ok, Err, vec_items, Result, nat_le}
+use Rattle.std.specs.Prelude.{◌≡◌, ℕ, ◌+◌, ◌<◌, Bool, cond, List, ◌++◌, length, take, is_ok, Ok, Err, vec_items, Result}
+use Rattle.std.specs.Prelude.{nat_le}
 use Rattle.names.specs.declared.names.Names.{Names}
 use Rattle.names.specs.View.{list}
 use Rattle.terms.specs.declared.row.Row.{Row}
@@ -33,14 +34,16 @@ Told limit bytes text firsts after seen (Ok u) = (after ≡ bytes ++ text) × (s
 Told limit bytes text firsts after seen (Err e) = limit < length bytes + length text
 
 -- behind the bytes and the variables that were there
-pub record Put (limit : ℕ) (bytes seen text firsts after known : List ℕ) (r : Result (Unit {0}) DoesNotFit) : Type 0 where
+pub record Put (limit : ℕ) (bytes seen text firsts after known : List ℕ) (r : Result (Unit {0}) DoesNotFit)
+    : Type 0 where
   pub kept : take (length bytes) after ≡ bytes
   pub held : take (length seen) known ≡ seen
   pub told : Told limit bytes text firsts after known r
 
 pub record Puts (before after : LineWriter) (text firsts : List ℕ) (r : Result (Unit {0}) DoesNotFit) : Type 0 where
   pub limit : line_limit after ≡ line_limit before
-  pub put : Put (line_limit before) (line_bytes before) (line_seen before) text firsts (line_bytes after) (line_seen after) r
+  pub put : Put (line_limit before) (line_bytes before) (line_seen before) text firsts
+      (line_bytes after) (line_seen after) r
 
 -- bytes with no new variable
 abbrev pub PutsBytes : LineWriter → LineWriter → List ℕ → Result (Unit {0}) DoesNotFit → Type 0

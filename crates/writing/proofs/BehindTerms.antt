@@ -1,8 +1,10 @@
 -- What can stand behind a written term, and how a text that leads behind a term leads on from there.
-use Rattle.std.proofs.Common.{◌≡◌, ℕ, suc, true, cond, List, [], ◌∷◌, ◌++◌, is_some, Some, None, codes, Option, sym, refl, ap, ◌∙◌, append_assoc}
+use Rattle.std.proofs.Common.{◌≡◌, ℕ, suc, true, cond, List, [], ◌∷◌, ◌++◌, is_some, Some, None, codes, Option, sym}
+use Rattle.std.proofs.Common.{refl, ap, ◌∙◌, append_assoc}
 use Rattle.terms.specs.Known.{comma_name, dot_name}
 use Rattle.tokens.specs.Token.{Token, closing, right, bar, comma, stop, single, Edge, joined}
-use Rattle.grammar.specs.Written.{Written, Writtens, var, int, app, nil, cons, join, with_last, pair, conj, conj_from, list_of, Sentence}
+use Rattle.grammar.specs.Written.{Written, Writtens, var, int, app, nil, cons, join, with_last, pair, conj, conj_from}
+use Rattle.grammar.specs.Written.{list_of, Sentence}
 use Rattle.grammar.specs.Machine.{VerdictOf, within, edge, at}
 use Rattle.grammar.specs.Sentences.{Place, operand, named, after, Context, head, among, tail, round, square, feed}
 use Rattle.writing.specs.Writing.{name_text}

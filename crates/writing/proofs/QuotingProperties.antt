@@ -1,10 +1,14 @@
 -- A bare name without quotes is read as that name; any other, but for `[]`, is not.
-use Rattle.std.proofs.Common.{◌≡◌, ℕ, zero, suc, ◌+◌, ◌≤◌, Bool, true, false, ◌&&◌, List, [], ◌∷◌, ◌++◌, length, Some, None, Option, sym, refl, ap, ◌∙◌, subst, arith, length-append}
+use Rattle.std.proofs.Common.{◌≡◌, ℕ, zero, suc, ◌+◌, ◌≤◌, Bool, true, false, ◌&&◌, List, [], ◌∷◌, ◌++◌, length, Some}
+use Rattle.std.proofs.Common.{None, Option, sym, refl, ap, ◌∙◌, subst, arith, length-append}
 use Rattle.terms.specs.Known.{empty_name}
-use Rattle.tokens.specs.Token.{Token, name, variable, integer, neck, opening, closing, left, right, bar, comma, stop, first}
+use Rattle.tokens.specs.Token.{Token, name, variable, integer, neck, opening, closing, left, right, bar, comma, stop}
+use Rattle.tokens.specs.Token.{first}
 use Rattle.grammar.specs.Written.{Written, Writtens, app, nil, cons, with_last, conj, list_of, empty_list, query}
 use Rattle.grammar.specs.Grammar.{brackets}
-use Rattle.grammar.specs.Sentences.{Place, operand, named, after, done, Context, head, among, tail, Holder, body, goals, arguments, round, square, feed, result, after_term, at_neck, at_comma, at_closing, at_right, at_empty, at_bar, at_stop}
+use Rattle.grammar.specs.Sentences.{Place, operand, named, after, done, Context, head, among, tail, Holder, body, goals}
+use Rattle.grammar.specs.Sentences.{arguments, round, square, feed, result, after_term, at_neck, at_comma, at_closing}
+use Rattle.grammar.specs.Sentences.{at_right, at_empty, at_bar, at_stop}
 use Rattle.writing.specs.Writing.{bare}
 use Rattle.writing.specs.Quoting.{BareNamesRead, OthersNeedQuotes}
 use Rattle.writing.proofs.WholeTokens.{false_true}

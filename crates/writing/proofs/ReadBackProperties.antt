@@ -1,5 +1,6 @@
 -- What is written reads back: read from any place where a term must begin, the text of a term leads behind that term.
-use Rattle.std.proofs.Common.{◌≡◌, ℕ, zero, suc, Bool, true, false, cond, ◌&&◌, List, [], ◌∷◌, ◌++◌, codes, sym, refl, ap, ◌∙◌, subst, append_assoc, append-nil}
+use Rattle.std.proofs.Common.{◌≡◌, ℕ, zero, suc, Bool, true, false, cond, ◌&&◌, List, [], ◌∷◌, ◌++◌, codes, sym, refl}
+use Rattle.std.proofs.Common.{ap, ◌∙◌, subst, append_assoc, append-nil}
 use Rattle.terms.specs.Known.{comma_name, dot_name, empty_name}
 use Rattle.tokens.specs.Bytes.{same}
 use Rattle.tokens.specs.Token.{opening, closing, left, right, comma, first, spaced, is_joined}
@@ -7,11 +8,16 @@ use Rattle.grammar.specs.Written.{Written, Writtens, var, int, app, nil, cons, j
 use Rattle.grammar.specs.Grammar.{brackets}
 use Rattle.grammar.specs.Machine.{edge}
 use Rattle.grammar.specs.Sentences.{operand, named, after, Context, head, among, body, goals, arguments, round, square}
-use Rattle.writing.specs.Writing.{name_text, Form, constant, empty, list, conjunction, plain, form, Spot, alone, argument, in_list, in_conjunction, others, form_text, text_at, arguments_text, others_text, text}
-use Rattle.writing.specs.ReadBack.{opens, room, inside, readable_at, arguments_readable, others_readable, readable, QueryReadsBack, FactReadsBack, RuleReadsBack}
+use Rattle.writing.specs.Writing.{name_text, Form, constant, empty, list, conjunction, plain, form, Spot, alone}
+use Rattle.writing.specs.Writing.{argument, in_list, in_conjunction, others, form_text, text_at, arguments_text}
+use Rattle.writing.specs.Writing.{others_text, text}
+use Rattle.writing.specs.ReadBack.{opens, room, inside, readable_at, arguments_readable, others_readable, readable}
+use Rattle.writing.specs.ReadBack.{QueryReadsBack, FactReadsBack, RuleReadsBack}
 use Rattle.writing.proofs.WholeTokens.{from, reading, false_true, and_both, single_on}
 use Rattle.writing.proofs.WrittenTokens.{same_sound, name_on}
-use Rattle.writing.proofs.BehindTerms.{join_assoc, list_nests, conj_nests, Behind, b_comma, b_closing, b_right, b_bar, b_stop, b_neck, cut_behind, name_cut, variable_cut, integer_cut, named_after, Leads, EndsList, EndsConjunction, operand_leads, as_tail, as_right}
+use Rattle.writing.proofs.BehindTerms.{join_assoc, list_nests, conj_nests, Behind, b_comma, b_closing, b_right, b_bar}
+use Rattle.writing.proofs.BehindTerms.{b_stop, b_neck, cut_behind, name_cut, variable_cut, integer_cut, named_after}
+use Rattle.writing.proofs.BehindTerms.{Leads, EndsList, EndsConjunction, operand_leads, as_tail, as_right}
 
 -- what is proved of every term
 record Reads (w : Written) : Type 0 where

@@ -1,12 +1,17 @@
 -- How many bytes the tokens of a text take: a name that is not bare takes two more than its own.
-use Rattle.std.proofs.Common.{◌≡◌, ℕ, suc, ◌+◌, ◌≤◌, Bool, true, false, cond, ◌&&◌, ◌||◌, eqb, List, [], ◌∷◌, ◌++◌, length, Some, None, Option, sym, refl, ap, ◌∙◌, subst, arith, length-append, eqb-true}
+use Rattle.std.proofs.Common.{◌≡◌, ℕ, suc, ◌+◌, ◌≤◌, Bool, true, false, cond, ◌&&◌, ◌||◌, eqb, List, [], ◌∷◌, ◌++◌}
+use Rattle.std.proofs.Common.{length, Some, None, Option, sym, refl, ap, ◌∙◌, subst, arith, length-append, eqb-true}
 use mathlib.Core.Bool.{or-true}
 use Rattle.tokens.specs.declared.kind.Kind.{Kind}
-use Rattle.tokens.specs.declared.kind.Kind.TheVariants.{Small, Capital, Digit, Symbol, Solo, Quote, Opening, Closing, Left, Right, Bar, Comma, Stop, Space, Stray}
+use Rattle.tokens.specs.declared.kind.Kind.TheVariants.{Small, Capital, Digit, Symbol, Solo, Quote, Opening, Closing}
+use Rattle.tokens.specs.declared.kind.Kind.TheVariants.{Left, Right, Bar, Comma, Stop, Space, Stray}
 use Rattle.tokens.specs.Bytes.{small, capital, digit, symbol, word, quote, space, same}
-use Rattle.tokens.specs.Token.{Token, name, variable, integer, neck, opening, closing, left, right, bar, comma, stop, Part, small_run, capital_run, digits, symbols, inside, closed, single, Edge, joined, spaced, may_part, start, start_as, advance, ended, neck_bytes, minus_bytes}
+use Rattle.tokens.specs.Token.{Token, name, variable, integer, neck, opening, closing, left, right, bar, comma, stop}
+use Rattle.tokens.specs.Token.{Part, small_run, capital_run, digits, symbols, inside, closed, single, Edge, joined}
+use Rattle.tokens.specs.Token.{spaced, may_part, start, start_as, advance, ended, neck_bytes, minus_bytes}
 use Rattle.grammar.specs.Written.{Sentence}
-use Rattle.grammar.specs.Machine.{good, bad, Lex, within, edge, at, hope_within, hope, check, enter_by, step_by, fresh, feed_maybe, allowed_at, allowed_by, finished, finished_by}
+use Rattle.grammar.specs.Machine.{good, bad, Lex, within, edge, at, hope_within, hope, check, enter_by, step_by, fresh}
+use Rattle.grammar.specs.Machine.{feed_maybe, allowed_at, allowed_by, finished, finished_by}
 use Rattle.grammar.specs.Sentences.{Place, feed, sentences, allowed, result}
 use Rattle.writing.specs.Writing.{all, bare}
 use Rattle.writing.proofs.WholeTokens.{reading, taking, and_both}

@@ -1,10 +1,12 @@
 -- What the reader of bytes makes of whole tokens: their bytes are taken one by one, and a token that ends is fed.
-use Rattle.std.proofs.Common.{◌≡◌, ℕ, Bool, true, false, cond, ◌&&◌, List, [], ◌∷◌, ◌++◌, Some, None, Option, sym, refl, ap, ◌∙◌, append_assoc, append-nil}
+use Rattle.std.proofs.Common.{◌≡◌, ℕ, Bool, true, false, cond, ◌&&◌, List, [], ◌∷◌, ◌++◌, Some, None, Option, sym, refl}
+use Rattle.std.proofs.Common.{ap, ◌∙◌, append_assoc, append-nil}
 use mathlib.Core.Bool.{false≢true}
 use Rattle.tokens.specs.Bytes.{space, quote}
 use Rattle.tokens.specs.Token.{Token, Part, inside, closed, single, Edge, spaced, may_part, start, advance, ended}
 use Rattle.grammar.specs.Written.{Sentence}
-use Rattle.grammar.specs.Machine.{VerdictOf, bad, Lex, within, edge, StateOf, at, hope_within, check, enter_by, step_by, fresh, feed_maybe, allowed_at, allowed_by, or_bad, verdict, onward, finished}
+use Rattle.grammar.specs.Machine.{VerdictOf, bad, Lex, within, edge, StateOf, at, hope_within, check, enter_by, step_by}
+use Rattle.grammar.specs.Machine.{fresh, feed_maybe, allowed_at, allowed_by, or_bad, verdict, onward, finished}
 use Rattle.grammar.specs.Sentences.{Place, operand, Context, feed, sentences, allowed}
 use Rattle.writing.specs.Writing.{all, doubled}
 

@@ -1,16 +1,19 @@
 -- Written names, variables and integers are read as themselves where a term must begin.
-use Rattle.std.proofs.Common.{◌≡◌, ℕ, Bool, true, false, cond, not, ◌&&◌, ◌||◌, eqb, List, [], ◌∷◌, ◌++◌, Some, None, codes, sym, refl, ap, ◌∙◌, subst, append_assoc, arith, eqb-true}
+use Rattle.std.proofs.Common.{◌≡◌, ℕ, Bool, true, false, cond, not, ◌&&◌, ◌||◌, eqb, List, [], ◌∷◌, ◌++◌, Some, None}
+use Rattle.std.proofs.Common.{codes, sym, refl, ap, ◌∙◌, subst, append_assoc, arith, eqb-true}
 use mathlib.Core.Bool.{and-false}
 use Rattle.std.proofs.lemmas.Bool.Decides.{nat_tests}
 use Rattle.tokens.specs.declared.kind.Kind.TheVariants.{Small, Capital, Digit, Symbol}
 use Rattle.tokens.specs.Bytes.{small, capital, digit, symbol, word, quote, space, class, same}
-use Rattle.tokens.specs.Token.{name, variable, integer, neck, small_run, capital_run, digits, symbols, inside, closed, Edge, start_as, advance, ended, neck_bytes, minus_bytes}
+use Rattle.tokens.specs.Token.{name, variable, integer, neck, small_run, capital_run, digits, symbols, inside, closed}
+use Rattle.tokens.specs.Token.{Edge, start_as, advance, ended, neck_bytes, minus_bytes}
 use Rattle.grammar.specs.Written.{var, int}
 use Rattle.grammar.specs.Machine.{within, edge}
 use Rattle.grammar.specs.Sentences.{operand, named, after, Context}
 use Rattle.writing.specs.Writing.{all, bare, doubled, name_text}
 use Rattle.writing.specs.ReadBack.{is_variable, is_digits, is_integer}
-use Rattle.writing.proofs.WholeTokens.{from, reading, false_true, and_both, goes_on, begins_on, ends_before, single_on, run_on, quoted_on}
+use Rattle.writing.proofs.WholeTokens.{from, reading, false_true, and_both, goes_on, begins_on, ends_before, single_on}
+use Rattle.writing.proofs.WholeTokens.{run_on, quoted_on}
 
 -- a byte that ends every name, variable and integer before it
 abbrev pub cuts : ℕ → Bool

@@ -5,7 +5,8 @@ use Rattle.grammar.specs.Written.{Written, Writtens, var, int, app, nil, cons, f
 use Rattle.grammar.specs.Grammar.{brackets, a_rule, a_query}
 use Rattle.grammar.specs.Machine.{good}
 use Rattle.grammar.specs.Theorem.{judged}
-use Rattle.writing.specs.Writing.{all, Form, constant, empty, list, conjunction, plain, form, Spot, alone, goes_on, others, text}
+use Rattle.writing.specs.Writing.{all, Form, constant, empty, list, conjunction, plain, form, Spot, alone, goes_on}
+use Rattle.writing.specs.Writing.{others, text}
 
 abbrev pub is_variable : List ℕ → Bool
 is_variable [] = false

@@ -1,4 +1,5 @@
-use Rattle.readback.proofs.RenamingProperties.{numbered_in_order, numbered_once, nothing_lost, same_text, head_and_body_alike}
+use Rattle.readback.proofs.RenamingProperties.{numbered_in_order, numbered_once, nothing_lost, same_text}
+use Rattle.readback.proofs.RenamingProperties.{head_and_body_alike}
 use Rattle.readback.proofs.numbering_is_faithful.Goals as goal
 
 pub returns : goal.returns

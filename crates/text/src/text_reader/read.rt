@@ -36,7 +36,9 @@ impl TextReader {
         names: &mut Names,
         row: &mut Row,
     ) -> Result<RuleText, TextFault>
-        ensures read { row_limit row.old ≡ 256 → RuleRead (list names.old) text.now (list names.new) (row_nodes row.new) (reader_spans self.new) result }
+        ensures read { row_limit row.old ≡ 256
+            → RuleRead (list names.old) text.now (list names.new) (row_nodes row.new)
+            (reader_spans self.new) result }
         ensures limit { row_limit row.new ≡ row_limit row.old }
     {
         row.clear();
@@ -62,7 +64,9 @@ impl TextReader {
         names: &mut Names,
         row: &mut Row,
     ) -> Result<QueryText, TextFault>
-        ensures read { row_limit row.old ≡ 256 → QueryRead (list names.old) text.now (list names.new) (row_nodes row.new) (reader_spans self.new) result }
+        ensures read { row_limit row.old ≡ 256
+            → QueryRead (list names.old) text.now (list names.new) (row_nodes row.new)
+            (reader_spans self.new) result }
         ensures limit { row_limit row.new ≡ row_limit row.old }
     {
         row.clear();
@@ -97,7 +101,8 @@ impl TextReader {
         row: &mut Row,
     ) -> Result<RuleText, TextFault>
         ensures kept { Extends (list names.old) (list names.new) }
-        ensures stored { StoresRule shape text.now self.old.ops.items (list names.old) (list names.new) row.old row.new self.new.builder result }
+        ensures stored { StoresRule shape text.now self.old.ops.items (list names.old) (list names.new)
+            row.old row.new self.new.builder result }
         ensures limit { row_limit row.new ≡ row_limit row.old }
     {
         self.builder
@@ -113,7 +118,8 @@ impl TextReader {
         row: &mut Row,
     ) -> Result<QueryText, LimitFault>
         ensures kept { Extends (list names.old) (list names.new) }
-        ensures asked { AsksQuery text.now self.old.ops.items (list names.old) (list names.new) row.old row.new self.new.builder result }
+        ensures asked { AsksQuery text.now self.old.ops.items (list names.old) (list names.new)
+            row.old row.new self.new.builder result }
         ensures limit { row_limit row.new ≡ row_limit row.old }
     {
         self.builder.build(text, self.ops.as_slice(), names)?;

@@ -1,5 +1,6 @@
 -- Copies are canonical.
-use Rattle.unification.proofs.CopiesProperties.{copy_from_renamed, copy_recovered, copy_copy, copy_shift, copy_from_shift}
+use Rattle.unification.proofs.CopiesProperties.{copy_from_renamed, copy_recovered, copy_copy, copy_shift}
+use Rattle.unification.proofs.CopiesProperties.{copy_from_shift}
 use Rattle.unification.proofs.CopiesProperties.{copy_from_size, copy_from_width, copy_from_vars}
 use Rattle.unification.proofs.copies_are_canonical.Goals as goal
 

@@ -4,7 +4,8 @@ use Rattle.terms.specs.Copies.{Standard, Any}
 use Rattle.terms.specs.Goals.{goal_form}
 use Rattle.terms.specs.RowViews.{row_nodes, row_limit}
 use Rattle.terms.proofs.RowViewsProperties.{row_nodes_few}
-use Rattle.text.proofs.FinishingProperties.{built_two, built_variables, copy_moved, rule_copied, head_refused, body_refused}
+use Rattle.text.proofs.FinishingProperties.{built_two, built_variables, copy_moved, rule_copied, head_refused}
+use Rattle.text.proofs.FinishingProperties.{body_refused}
 use Rattle.text.proofs.finish.copy_rule.Goals as goal
 
 pub returns-in_default : goal.returns-in_default

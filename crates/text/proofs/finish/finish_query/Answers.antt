@@ -5,14 +5,8 @@ use Rattle.terms.specs.Goals.{goal_form}
 use Rattle.terms.specs.RowViews.{row_nodes, row_limit}
 use Rattle.terms.proofs.RowViewsProperties.{row_nodes_few}
 use Rattle.text.proofs.BuiltProperties.{built_length}
-use Rattle.text.proofs.FinishingProperties.{
-  one_place,
-  built_one,
-  built_variables,
-  copy_moved,
-  query_copied,
-  query_refused,
-}
+use Rattle.text.proofs.FinishingProperties.{one_place, built_one, built_variables, copy_moved, query_copied}
+use Rattle.text.proofs.FinishingProperties.{query_refused}
 use Rattle.text.proofs.finish.finish_query.Goals as goal
 
 pub returns-then-places-ne1 : goal.returns-then-places-ne1

@@ -1,5 +1,6 @@
 -- A first quote waits, and any other byte is written while there is room.
-use Rattle.std.proofs.Common.{◌≡◌, ◌+◌, true, false, ◌++◌, length, drop, vec_items, vec_len, vec_capacity, sym, ap, ◌∙◌, arith}
+use Rattle.std.proofs.Common.{◌≡◌, ◌+◌, true, false, ◌++◌, length, drop, vec_items, vec_len, vec_capacity, sym, ap, ◌∙◌}
+use Rattle.std.proofs.Common.{arith}
 use Rattle.std.proofs.lemmas.Bool.{le-leb, lt-leb}
 use Rattle.tokens.specs.Scanning.{undouble}
 use Rattle.text.proofs.UndoubleProperties.{undouble_opened, undouble_written, undouble_longer, undouble_end}

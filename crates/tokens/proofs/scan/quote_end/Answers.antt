@@ -1,4 +1,5 @@
-use Rattle.std.proofs.Common.{◌≡◌, ℕ, ◌+◌, ◌-◌, ◌≤◌, false, List, take, drop, sym, refl, ap, ◌∙◌, subst, arith, length-drop, drop-drop}
+use Rattle.std.proofs.Common.{◌≡◌, ℕ, ◌+◌, ◌-◌, ◌≤◌, false, List, take, drop, sym, refl, ap, ◌∙◌, subst, arith}
+use Rattle.std.proofs.Common.{length-drop, drop-drop}
 use Rattle.tokens.specs.Scanning.{quote_at, undouble}
 use Rattle.tokens.specs.Token.{name, got}
 use Rattle.tokens.proofs.QuoteProperties.{Reading, reading_plain, reading_doubled, reading_closed, reading_endless}

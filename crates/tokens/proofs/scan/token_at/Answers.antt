@@ -1,11 +1,13 @@
-use Rattle.std.proofs.Common.{◌≡◌, ℕ, zero, suc, ◌+◌, ◌-◌, ◌<◌, false, List, [], ◌∷◌, length, get_or, take, drop, Some, sym, refl, ap, ◌∙◌, subst, inl, inr, arith}
+use Rattle.std.proofs.Common.{◌≡◌, ℕ, zero, suc, ◌+◌, ◌-◌, ◌<◌, false, List, [], ◌∷◌, length, get_or, take, drop, Some}
+use Rattle.std.proofs.Common.{sym, refl, ap, ◌∙◌, subst, inl, inr, arith}
 use Rattle.tokens.specs.declared.kind.Kind.{Kind}
 use Rattle.tokens.specs.declared.kind.Kind.TheVariants.{Solo, Opening, Closing, Left, Right, Bar, Comma, Stop}
 use Rattle.tokens.specs.declared.scan.Token.{Token}
 use Rattle.tokens.specs.declared.scan.Token.TheVariants as code
 use Rattle.tokens.specs.declared.scan.Found.{Found}
 use Rattle.tokens.specs.Token as spec
-use Rattle.tokens.specs.Scanning.{head_kind, RunKind, small_begins, capital_begins, digit_begins, Stands, scan_of, Holds, Length}
+use Rattle.tokens.specs.Scanning.{head_kind, RunKind, small_begins, capital_begins, digit_begins, Stands, scan_of}
+use Rattle.tokens.specs.Scanning.{Holds, Length}
 use Rattle.tokens.proofs.BytesProperties.{drop_here}
 use Rattle.tokens.proofs.ScanningProperties.{scan_by_kind, scan_single}
 use Rattle.tokens.proofs.scan.token_at.Goals as goal

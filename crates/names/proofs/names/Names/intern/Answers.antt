@@ -2,18 +2,8 @@
 use Rattle.std.proofs.Common.{◌≡◌, true, Ok, sym, ap, ◌∙◌, inl, inr, arith}
 use Rattle.names.specs.Interned.{full}
 use Rattle.names.specs.View.{list}
-use Rattle.names.proofs.InternedProperties.{
-  interned_long,
-  interned_old,
-  interned_full,
-  interned_new,
-  full_names,
-  full_bytes,
-  not_full,
-  kept_same,
-  kept_pushed,
-  holds_pushed,
-}
+use Rattle.names.proofs.InternedProperties.{interned_long, interned_old, interned_full, interned_new, full_names}
+use Rattle.names.proofs.InternedProperties.{full_bytes, not_full, kept_same, kept_pushed, holds_pushed}
 use Rattle.names.proofs.names.Names.intern.Goals as goal
 
 pub returns-then-name-gt-MAX_NAME : goal.returns-then-name-gt-MAX_NAME

@@ -1,5 +1,6 @@
 -- The table with a rule more keeps to its rules.
-use Rattle.std.proofs.Common.{◌≡◌, ◌+◌, ◌≤◌, true, ◌++◌, length, is_ok, vec_items, vec_len, vec_capacity, refl, ap, ◌∙◌, arith}
+use Rattle.std.proofs.Common.{◌≡◌, ◌+◌, ◌≤◌, true, ◌++◌, length, is_ok, vec_items, vec_len, vec_capacity, refl, ap, ◌∙◌}
+use Rattle.std.proofs.Common.{arith}
 use Rattle.rules.specs.Calls.{value_of}
 use Rattle.tablestore.specs.declared.entry.Entry.{Entry}
 use Rattle.tablestore.specs.Entries.{total, inside}

@@ -1,6 +1,7 @@
 -- An argument stands before its node, so that the recursion goes down.
 -- What stands before the arguments, the arguments, and what stands behind them make the text.
-use Rattle.std.proofs.Common.{◌≡◌, ℕ, ◌+◌, ◌<◌, ◌≤◌, length, get_or, Ok, sym, refl, ap, ◌∙◌, subst, arith, w32, SFits, to_z, of_z, rules}
+use Rattle.std.proofs.Common.{◌≡◌, ℕ, ◌+◌, ◌<◌, ◌≤◌, length, get_or, Ok, sym, refl, ap, ◌∙◌, subst, arith, w32, SFits}
+use Rattle.std.proofs.Common.{to_z, of_z, rules}
 use Rattle.std.proofs.lemmas.Int.{to_z-of_z}
 use Rattle.names.specs.View.{list}
 use Rattle.terms.specs.declared.node.Node.TheVariants.{Var, Int, App}
@@ -13,7 +14,8 @@ use Rattle.writer.specs.Lines.{line_seen, Puts}
 use Rattle.writer.specs.Pieces.{spot_of, opening_text, closing_text}
 use Rattle.writer.specs.Shown.{firsts, integer_text}
 use Rattle.writer.specs.Numbered.{numbered}
-use Rattle.writer.proofs.NodeProperties.{read_as, meaning_at, argument_before, node_text, node_seen, argument_next, part_short, opening_short}
+use Rattle.writer.proofs.NodeProperties.{read_as, meaning_at, argument_before, node_text, node_seen, argument_next}
+use Rattle.writer.proofs.NodeProperties.{part_short, opening_short}
 use Rattle.writer.proofs.NumberedProperties.{part_text, part_seen, part_text_longer}
 use Rattle.writer.proofs.PutProperties.{puts_none, puts_then, puts_next, puts_longer, puts_same}
 use Rattle.writer.proofs.line.LineWriter.+node.Goals as goal

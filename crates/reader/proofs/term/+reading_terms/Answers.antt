@@ -1,4 +1,5 @@
-use Rattle.std.proofs.Common.{◌≡◌, ℕ, ◌+◌, ◌-◌, ◌≤◌, false, ◌⊎◌, List, ◌∷◌, length, drop, Ok, vec_items, vec_len, sym, refl, ap, ◌∙◌, inl, inr, arith}
+use Rattle.std.proofs.Common.{◌≡◌, ℕ, ◌+◌, ◌-◌, ◌≤◌, false, ◌⊎◌, List, ◌∷◌, length, drop, Ok, vec_items, vec_len, sym}
+use Rattle.std.proofs.Common.{refl, ap, ◌∙◌, inl, inr, arith}
 use Rattle.std.proofs.lemmas.Result.{err_from_is_err_and}
 use Rattle.tokens.specs.declared.kind.Kind.TheVariants.{Opening, Left}
 use Rattle.tokens.specs.declared.scan.Token.TheVariants as code
@@ -17,7 +18,7 @@ use Rattle.reader.proofs.BracketSteps.{arguments_too_deep, arguments_break, argu
 use Rattle.reader.proofs.ListSteps.{list_too_deep, empty_reaches, list_read, list_fitted, elements_break}
 use Rattle.reader.proofs.ListSteps.{elements_reach, elements_unclosed, tail_breaks, tail_reaches, tail_unclosed}
 use Rattle.reader.proofs.CommaSteps.{none_yet, one_more, the_last, none_more}
-use Rattle.reader.proofs.term.+arguments_bracketed_elements_list_term_terms.Goals as goal
+use Rattle.reader.proofs.term.+reading_terms.Goals as goal
 
 pub arguments-returns-then-left-eq0 : goal.arguments-returns-then-left-eq0
 arguments-returns-then-left-eq0 t c =

@@ -1,6 +1,6 @@
 use Rattle.std.proofs.Common.{◌≡◌, ◌+◌, ◌-◌, ◌*◌, ◌≤◌, length, vec_items, vec_len, vec_capacity}
 use Rattle.reader.specs.Along.{Along}
-use Rattle.reader.proofs.term.+arguments_bracketed_elements_list_term_terms.Given as goal
+use Rattle.reader.proofs.term.+reading_terms.Given as goal
 
 abbrev pub decreases-terms : goal.decreases-terms
 decreases-terms l = 8 * l.left + 7
