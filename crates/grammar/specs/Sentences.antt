@@ -162,8 +162,7 @@ allowed (done s) = brackets
 
 abbrev pub sentences : Parser
 sentences = record {
-  Place =
-      Place;
+  Place = Place;
   Result = Sentence;
   feed = feed;
   is_open_ended = open_ended;
