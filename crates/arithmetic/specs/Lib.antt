@@ -1,3 +1,4 @@
 pub mod Integers
+pub mod Faults
 pub mod Worked
 pub mod Laws

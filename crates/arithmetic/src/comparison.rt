@@ -3,7 +3,7 @@
 ghost use Rattle.std.specs.Prelude.{◌≡◌};
 ghost use Rattle.arithmetic.specs.Integers.{compared};
 
-#[derive(Clone, Copy)]
+#[derive(Clone, Copy, Debug, PartialEq, Eq)]
 pub enum Comparison {
     Equal,
     Different,
@@ -14,7 +14,7 @@ pub enum Comparison {
 }
 
 impl Comparison {
-    // Whether it holds.
+    /// Whether it holds.
     pub fn holds(self, a: i32, b: i32) -> bool
         ensures { result ≡ compared self a b }
     {

@@ -1,24 +1,41 @@
 //! The functions of one and of two integers.
 
-ghost use Rattle.std.specs.Prelude.{◌≡◌};
+ghost use Rattle.std.specs.Prelude.{◌≡◌, Some};
+ghost use Rattle.arithmetic.specs.Faults.{fault_text};
 ghost use Rattle.arithmetic.specs.Integers.{applied, paired, quotient, modulo};
 
-// Why a function gives no integer.
-#[derive(Clone, Copy)]
+use std::error::Error;
+use std::fmt;
+
+/// Why a function gives no integer.
+#[derive(Clone, Copy, Debug, PartialEq, Eq)]
 pub enum ArithmeticFault {
     ZeroDivisor,
     Overflow,
 }
 
-// The functions of one integer.
-#[derive(Clone, Copy)]
+impl fmt::Display for ArithmeticFault {
+    ghost output = { λ fault. Some (fault_text fault) };
+
+    fn fmt<W: fmt::Write>(&self, f: &mut fmt::Formatter<W>) -> fmt::Result {
+        f.write_str(match self {
+            ArithmeticFault::ZeroDivisor => "division by zero",
+            ArithmeticFault::Overflow => "the value does not fit into 32 bits",
+        })
+    }
+}
+
+impl Error for ArithmeticFault {}
+
+/// The functions of one integer.
+#[derive(Clone, Copy, Debug, PartialEq, Eq)]
 pub enum Unary {
     Negate,
     Absolute,
 }
 
-// The functions of two integers.
-#[derive(Clone, Copy)]
+/// The functions of two integers.
+#[derive(Clone, Copy, Debug, PartialEq, Eq)]
 pub enum Binary {
     Add,
     Subtract,
@@ -28,7 +45,7 @@ pub enum Binary {
 }
 
 impl Unary {
-    // The value, or an overflow: the least integer has no opposite.
+    /// The value, or an overflow: the least integer has no opposite.
     pub fn apply(self, a: i32) -> Result<i32, ArithmeticFault>
         ensures { result ≡ applied self a }
     {
@@ -40,7 +57,7 @@ impl Unary {
 }
 
 impl Binary {
-    // The value, or a zero divisor, or an overflow.
+    /// The value, or a zero divisor, or an overflow.
     pub fn apply(self, a: i32, b: i32) -> Result<i32, ArithmeticFault>
         ensures { result ≡ paired self a b }
     {

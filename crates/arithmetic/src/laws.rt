@@ -2,9 +2,7 @@
 
 ghost use Rattle.arithmetic.specs.Laws.{ArithmeticLaws};
 
-// Quotient and remainder make up the dividend, what is left is small and has the right sign; with worked values.
-pub fn remainder_is_lawful() -> u8
+/// Quotient and remainder make up the dividend, what is left is small and has the right sign; with worked values.
+pub fn remainder_is_lawful()
     ensures { ArithmeticLaws }
-{
-    0
-}
+{}

@@ -1,7 +1,6 @@
 pub mod NextProperties
-pub mod EntriesProperties
+pub mod RowsProperties
 pub mod RingsProperties
 pub mod LinksProperties
 pub mod LinkedProperties
 pub mod ViewsProperties
-pub mod ChangesProperties

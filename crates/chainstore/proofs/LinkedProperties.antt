@@ -1,53 +1,30 @@
 -- The rings of all indicators: what an added rule and an erased one leave of them.
-use Rattle.std.proofs.Common.{◌≡◌, ℕ, ◌+◌, ◌<◌, true, false, eqb, ltb, leb, List, [], ◌∷◌, ◌++◌, length, get_or, set}
+use Rattle.std.proofs.Common.{◌≡◌, ℕ, ◌+◌, ◌<◌, true, false, eqb, ltb, leb, List, [], ◌∷◌, ◌++◌, length, get_or}
 use Rattle.std.proofs.Common.{Some, None, Option, sym, refl, ap, ◌∙◌, subst, inl, inr, arith}
 use Rattle.std.proofs.lemmas.Bool.{ltb-true, leb-true, eqb-true, eq-eqb, and_parts, and_from, and_right, both_ways}
 use Rattle.std.proofs.lemmas.Bool.{cases_Bool, cond-true, cond-false}
 use Rattle.rules.specs.declared.indicator.Indicator.{Indicator}
-use Rattle.rules.specs.Indicators.{is_one}
+use Rattle.rules.specs.Indicators.{fits, is_one}
 use Rattle.rules.specs.Meaning.{End, front, back, placed, next_in, holds}
-use Rattle.chainstore.specs.declared.entry.Entry.{Entry}
-use Rattle.chainstore.specs.declared.entry.Link.{Link}
-use Rattle.chainstore.specs.Entries.{is_live_of, end_of, row_of, live_at}
-use Rattle.chainstore.specs.Rings.{head_of, cell_of, is_in, backward, after_at, before_at, Inserted, InsertedAt}
-use Rattle.chainstore.specs.Rings.{Bridged}
-use Rattle.chainstore.specs.Rings.{Alone}
-use Rattle.chainstore.proofs.NextProperties.{is_in_reverse, is_in_next, is_in_backward, without_absent}
-use Rattle.chainstore.proofs.EntriesProperties.{row_of_push, row_of_erased, distinct_row_of, holds_row_of}
-use Rattle.chainstore.proofs.EntriesProperties.{live_at_entry}
-use Rattle.chainstore.proofs.EntriesProperties.{live_at_past, live_at_less, live_at_one}
-use Rattle.chainstore.proofs.LinksProperties.{Ring, ring_added, ring_erased, ring_kept}
+use Rattle.rules.specs.Tables.{Kept, noted}
+use Rattle.chainstore.specs.declared.note.Note.{Note}
+use Rattle.chainstore.specs.declared.rings.Link.{Link}
+use Rattle.chainstore.specs.Rings.{head_of, cell_of, is_in, backward, after_at, before_at, end_of, Inserted, InsertedAt}
+use Rattle.chainstore.specs.Rings.{Bridged, Alone}
+use Rattle.chainstore.specs.Rows.{is_live_of, row_of, live_at}
+use Rattle.chainstore.specs.Linked.{Ring, Linked}
+use Rattle.rules.proofs.MeaningProperties.{without_absent}
+use Rattle.chainstore.proofs.NextProperties.{is_in_reverse, is_in_next, is_in_backward}
+use Rattle.chainstore.proofs.RowsProperties.{row_of_push, row_of_erased, distinct_row_of, holds_row_of}
+use Rattle.chainstore.proofs.RowsProperties.{live_at_entry}
+use Rattle.chainstore.proofs.RowsProperties.{live_at_past, live_at_less, live_at_one}
+use Rattle.chainstore.proofs.LinksProperties.{ring_added, ring_erased, ring_kept}
 
 abbrev pub head : Indicator → ℕ
 head i = head_of i.name i.arity
 
-abbrev pub row : List Entry → Indicator → List ℕ
+abbrev pub row : List (Kept Note) → Indicator → List ℕ
 row es i = row_of es i.name i.arity
-
-abbrev pub Linked : List Entry → List Link → Type 0
-Linked es ls = (i : Indicator) → Ring ls (head i) (row es i)
-
-abbrev pub After : List Entry → List Link → Type 0
-After es ls =
-    (i : Indicator) (o : Option ℕ) → is_in o (row es i) ≡ true
-    → after_at ls (cell_of (head i) o) ≡ cell_of (head i) (next_in (row es i) o)
-
-abbrev pub Before : List Entry → List Link → Type 0
-Before es ls =
-    (i : Indicator) (o : Option ℕ) → is_in o (row es i) ≡ true
-    → before_at ls (cell_of (head i) o) ≡ cell_of (head i) (backward (row es i) o)
-
-pub linked_from : (es : List Entry) (ls : List Link) → After es ls → Before es ls → Linked es ls
-linked_from es ls a b i = record {
-  after = a i;
-  before = λ o t. b i o (sym (is_in_reverse o (row es i)) ∙ t);
-}
-
-pub linked_after : (es : List Entry) (ls : List Link) → Linked es ls → After es ls
-linked_after es ls rings i = (rings i).after
-
-pub linked_before : (es : List Entry) (ls : List Link) → Linked es ls → Before es ls
-linked_before es ls rings i o t = (rings i).before o (is_in_reverse o (row es i) ∙ t)
 
 pub head_less : (i : Indicator) → head i < 4608
 head_less i =
@@ -66,7 +43,7 @@ head_same i j e =
     (eq-eqb i.arity j.arity a)
 
 -- two rings have no cell in common
-pub cells_apart : (es : List Entry) (i j : Indicator) (o p : Option ℕ) → is_in o (row es i) ≡ true
+pub cells_apart : (es : List (Kept Note)) (i j : Indicator) (o p : Option ℕ) → is_in o (row es i) ≡ true
     → is_in p (row es j) ≡ true
     → cell_of (head i) o ≡ cell_of (head j) p → is_one i.name i.arity j.name j.arity ≡ true
 cells_apart es i j None None s t e = head_same i j e
@@ -77,53 +54,44 @@ cells_apart es i j (Some x) (Some y) s t e =
     live_at_one es x i.name i.arity j.name j.arity (sym (holds_row_of es i.name i.arity x) ∙ s)
     (ap (λ n. live_at es n j.name j.arity) same ∙ sym (holds_row_of es j.name j.arity y) ∙ t)
 
-pub cell_less : (es : List Entry) (i : Indicator) (o : Option ℕ) → is_in o (row es i) ≡ true
+pub cell_less : (es : List (Kept Note)) (i : Indicator) (o : Option ℕ) → is_in o (row es i) ≡ true
     → cell_of (head i) o < 4608 + length es
 cell_less es i None t = let h = head_less i in omega arith
 cell_less es i (Some x) t =
     let l = live_at_less es x i.name i.arity (sym (holds_row_of es i.name i.arity x) ∙ t) in omega arith
 
--- the cells beside a cell of a ring are there
-pub after_less : (es : List Entry) (ls : List Link) → After es ls → (i : Indicator) (o : Option ℕ)
-    → is_in o (row es i) ≡ true
-    → after_at ls (cell_of (head i) o) < 4608 + length es
-after_less es ls a i o t =
-    let l = cell_less es i (next_in (row es i) o) (is_in_next (row es i) o) in let e = a i o t in omega arith
+-- the indicator of a kept rule
+abbrev pub indicator_of : (e : Kept Note) → fits e.rule.name e.rule.arity ≡ true → Indicator
+indicator_of e s = record { name = e.rule.name; arity = e.rule.arity; small = s }
 
-pub before_less : (es : List Entry) (ls : List Link) → Before es ls → (i : Indicator) (o : Option ℕ)
-    → is_in o (row es i) ≡ true
-    → before_at ls (cell_of (head i) o) < 4608 + length es
-before_less es ls b i o t =
-    let l = cell_less es i (backward (row es i) o) (is_in_backward (row es i) o) in let e = b i o t in omega arith
-
-added_same : (es : List Entry) (e : Entry) (ls ms : List Link) → e.live ≡ true → length ls ≡ 4608 + length es
-    → Linked es ls → InsertedAt (end_of e.side) ls (head e.indicator) ms → (i : Indicator)
-    → is_one e.indicator.name e.indicator.arity i.name i.arity ≡ true
+added_same : (es : List (Kept Note)) (e : Kept Note) (ls ms : List Link) → e.note.live ≡ true
+    → length ls ≡ 4608 + length es → Linked es ls → InsertedAt (end_of e.note.side) ls (head_of e.rule.name e.rule.arity) ms → (i : Indicator)
+    → is_one e.rule.name e.rule.arity i.name i.arity ≡ true
     → Ring ms (head i) (row (es ++ e ∷ []) i)
 added_same es e ls ms live long rings new i t =
-    let two = and_parts (eqb e.indicator.name i.name) (eqb e.indicator.arity i.arity) t in
-    let at : head e.indicator ≡ head i
-    = ap (λ f. head_of f e.indicator.arity) (eqb-true e.indicator.name i.name two.0)
-    ∙ ap (head_of i.name) (eqb-true e.indicator.arity i.arity two.1) in
-    let is : row (es ++ e ∷ []) i ≡ placed (end_of e.side) (length es) (row es i)
+    let two = and_parts (eqb e.rule.name i.name) (eqb e.rule.arity i.arity) t in
+    let at : head_of e.rule.name e.rule.arity ≡ head i
+    = ap (λ f. head_of f e.rule.arity) (eqb-true e.rule.name i.name two.0)
+    ∙ ap (head_of i.name) (eqb-true e.rule.arity i.arity two.1) in
+    let is : row (es ++ e ∷ []) i ≡ placed (end_of e.note.side) (length es) (row es i)
     = row_of_push es e i.name i.arity
-    ∙ cond-true (is_live_of e i.name i.arity) (placed (end_of e.side) (length es) (row es i)) (row es i)
-    (and_from e.live (is_one e.indicator.name e.indicator.arity i.name i.arity) live t) in
+    ∙ cond-true (is_live_of e i.name i.arity) (placed (end_of e.note.side) (length es) (row es i)) (row es i)
+    (and_from e.note.live (is_one e.rule.name e.rule.arity i.name i.arity) live t) in
     let out : holds (length es) (row es i) ≡ false
     = holds_row_of es i.name i.arity (length es)
     ∙ live_at_past es (length es) i.name i.arity (omega arith) in
     subst (λ r. Ring ms (head i) r) (sym is)
-    (ring_added (end_of e.side) ls ms (head i) (length es) (row es i) (head_less i) long
+    (ring_added (end_of e.note.side) ls ms (head i) (length es) (row es i) (head_less i) long
     (distinct_row_of es i.name i.arity) out (rings i)
-    (subst (λ h. InsertedAt (end_of e.side) ls h ms) at new))
+    (subst (λ h. InsertedAt (end_of e.note.side) ls h ms) at new))
 
-apart_false : (es : List Entry) (i j : Indicator) (o p : Option ℕ) (k : ℕ)
+apart_false : (es : List (Kept Note)) (i j : Indicator) (o p : Option ℕ) (k : ℕ)
     → is_one j.name j.arity i.name i.arity ≡ false → is_in o (row es i) ≡ true → is_in p (row es j) ≡ true
     → k ≡ cell_of (head j) p → cell_of (head i) o ≡ k → ⊥
 apart_false es i j o p k n s t is e =
     both_ways (is_one j.name j.arity i.name i.arity) n (cells_apart es j i p o t s (sym is ∙ sym e))
 
-inserted_other : (es : List Entry) (ls ms : List Link) (i j : Indicator) (p q : ℕ) (u v : Option ℕ)
+inserted_other : (es : List (Kept Note)) (ls ms : List Link) (i j : Indicator) (p q : ℕ) (u v : Option ℕ)
     → length ls ≡ 4608 + length es → is_one j.name j.arity i.name i.arity ≡ false
     → is_in u (row es j) ≡ true → p ≡ cell_of (head j) u → is_in v (row es j) ≡ true → q ≡ cell_of (head j) v
     → Ring ls (head i) (row es i) → Inserted ls p q ms → Ring ms (head i) (row es i)
@@ -135,7 +103,7 @@ inserted_other es ls ms i j p q u v long n s x t y ring new =
     new.before_others (cell_of (head i) o) (apart_false es i j o v q n m' t y)
     (λ e. let l = cell_less es i o m' in omega arith))
 
-added_other : (z : End) (es : List Entry) (ls ms : List Link) (j : Indicator) → length ls ≡ 4608 + length es
+added_other : (z : End) (es : List (Kept Note)) (ls ms : List Link) (j : Indicator) → length ls ≡ 4608 + length es
     → Linked es ls → InsertedAt z ls (head j) ms → (i : Indicator)
     → is_one j.name j.arity i.name i.arity ≡ false → Ring ms (head i) (row es i)
 added_other front es ls ms j long rings new i n =
@@ -145,44 +113,45 @@ added_other back es ls ms j long rings new i n =
     inserted_other es ls ms i j (before_at ls (head j)) (head j) (backward (row es j) None) None long n
     (is_in_backward (row es j) None) ((rings j).before None refl) refl refl (rings i) new
 
-pub linked_added : (es : List Entry) (e : Entry) (ls ms : List Link) → e.live ≡ true → length ls ≡ 4608 + length es
-    → Linked es ls → InsertedAt (end_of e.side) ls (head e.indicator) ms → Linked (es ++ e ∷ []) ms
-linked_added es e ls ms live long rings new i =
-    elim (cases_Bool (is_one e.indicator.name e.indicator.arity i.name i.arity)) [
+pub linked_added : (es : List (Kept Note)) (e : Kept Note) (ls ms : List Link) → fits e.rule.name e.rule.arity ≡ true
+    → e.note.live ≡ true → length ls ≡ 4608 + length es → Linked es ls
+    → InsertedAt (end_of e.note.side) ls (head_of e.rule.name e.rule.arity) ms → Linked (es ++ e ∷ []) ms
+linked_added es e ls ms small live long rings new i =
+    elim (cases_Bool (is_one e.rule.name e.rule.arity i.name i.arity)) [
       | inl t ↦ added_same es e ls ms live long rings new i t
       | inr n ↦ subst (λ r. Ring ms (head i) r) (sym (same n))
-          (added_other (end_of e.side) es ls ms e.indicator long rings new i n)
+          (added_other (end_of e.note.side) es ls ms (indicator_of e small) long rings new i n)
     ]
   where
-    same : is_one e.indicator.name e.indicator.arity i.name i.arity ≡ false
+    same : is_one e.rule.name e.rule.arity i.name i.arity ≡ false
         → row (es ++ e ∷ []) i ≡ row es i
     same n =
         row_of_push es e i.name i.arity
-        ∙ cond-false (is_live_of e i.name i.arity) (placed (end_of e.side) (length es) (row es i)) (row es i)
-        (and_right e.live (is_one e.indicator.name e.indicator.arity i.name i.arity) n)
+        ∙ cond-false (is_live_of e i.name i.arity) (placed (end_of e.note.side) (length es) (row es i)) (row es i)
+        (and_right e.note.live (is_one e.rule.name e.rule.arity i.name i.arity) n)
 
--- the label of a live entry is in the row of the entry's indicator
-pub own_label : (es : List Entry) (l : ℕ) (d : Entry) → l < length es → d ≡ get_or es l d → d.live ≡ true
-    → holds l (row es d.indicator) ≡ true
+-- the label of a live rule is in the row of the rule's indicator
+pub own_label : (es : List (Kept Note)) (l : ℕ) (d : Kept Note) → l < length es → d ≡ get_or es l d
+    → d.note.live ≡ true → holds l (row_of es d.rule.name d.rule.arity) ≡ true
 own_label es l d less is live =
-    let f = d.indicator.name in
-    let a = d.indicator.arity in
+    let f = d.rule.name in
+    let a = d.rule.arity in
     holds_row_of es f a l ∙ live_at_entry es l f a d less is
-    ∙ and_from d.live (is_one f a f a) live (and_from (eqb f f) (eqb a a) (eq-eqb f f refl) (eq-eqb a a refl))
+    ∙ and_from d.note.live (is_one f a f a) live (and_from (eqb f f) (eqb a a) (eq-eqb f f refl) (eq-eqb a a refl))
 
-pub linked_erased : (es : List Entry) (l : ℕ) (d e : Entry) (ls ms : List Link) → l < length es → d ≡ get_or es l d
-    → d.live ≡ true → e.live ≡ false → Linked es ls
-    → Bridged ls (before_at ls (4608 + l)) (after_at ls (4608 + l)) ms → Linked (set es l e) ms
-linked_erased es l d e ls ms less is live dead rings new i =
-    subst (λ r. Ring ms (head i) r) (sym (row_of_erased es l e i.name i.arity less dead))
+pub linked_erased : (es : List (Kept Note)) (l : ℕ) (d : Kept Note) (n : Note) (ls ms : List Link) → l < length es
+    → d ≡ get_or es l d → fits d.rule.name d.rule.arity ≡ true → d.note.live ≡ true → n.live ≡ false → Linked es ls
+    → Bridged ls (before_at ls (4608 + l)) (after_at ls (4608 + l)) ms → Linked (noted es l n) ms
+linked_erased es l d n ls ms less is small live dead rings new i =
+    subst (λ r. Ring ms (head i) r) (sym (row_of_erased es l n i.name i.arity less dead))
     (elim (cases_Bool (holds l (row es i))) [
       | inl t ↦ ring_erased ls ms (head i) l (row es i) (head_less i) (distinct_row_of es i.name i.arity) t
           (rings i) new
-      | inr n ↦ subst (λ r. Ring ms (head i) r) (sym (without_absent l (row es i) n)) (other n)
+      | inr o ↦ subst (λ r. Ring ms (head i) r) (sym (without_absent l (row es i) o)) (other o)
     ])
   where
     j : Indicator
-    j = d.indicator
+    j = indicator_of d small
 
     own : holds l (row es j) ≡ true
     own = own_label es l d less is live
@@ -192,7 +161,7 @@ linked_erased es l d e ls ms less is live dead rings new i =
         elim (cases_Bool (is_one j.name j.arity i.name i.arity)) [
           | inl t ↦ absurd (both_ways (holds l (row es i)) n
               (holds_row_of es i.name i.arity l ∙ live_at_entry es l i.name i.arity d less is
-              ∙ and_from d.live (is_one j.name j.arity i.name i.arity) live t))
+              ∙ and_from d.note.live (is_one j.name j.arity i.name i.arity) live t))
           | inr t ↦ t
         ]
 

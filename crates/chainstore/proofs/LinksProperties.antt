@@ -5,17 +5,13 @@ use Rattle.std.proofs.lemmas.List.{reverse-append, append_assoc, length-append, 
 use Rattle.std.proofs.lemmas.List.{get_or_push}
 use Rattle.std.proofs.lemmas.Bool.{eq-eqb, and_parts, not-true, cond-true, or_left, or_right, cases_lt}
 use Rattle.rules.specs.Meaning.{End, front, back, placed, first_of, behind, holds, distinct, without}
-use Rattle.chainstore.specs.declared.entry.Link.{Link}
+use Rattle.chainstore.specs.declared.rings.Link.{Link}
 use Rattle.chainstore.specs.Rings.{cell_of, is_in, no_link, after_at, before_at, Inserted, InsertedAt, Bridged, Alone}
+use Rattle.chainstore.specs.Linked.{Goes, Ring}
 use Rattle.chainstore.proofs.NextProperties.{split, distinct_parts, distinct_reverse, holds_reverse, holds_append}
 use Rattle.chainstore.proofs.NextProperties.{reverse_cons}
 use Rattle.chainstore.proofs.NextProperties.{last_of, last_of_reverse, first_reverse, behind_skip, without_split}
-use Rattle.chainstore.proofs.RingsProperties.{Goes, goes_front, goes_back, goes_past}
-
--- the ring with this head follows the row
-pub record Ring (ls : List Link) (h : ℕ) (xs : List ℕ) : Type 0 where
-  pub after : Goes (after_at ls) h xs
-  pub before : Goes (before_at ls) h (reverse xs)
+use Rattle.chainstore.proofs.RingsProperties.{goes_front, goes_back, goes_past}
 
 pub ring_added : (e : End) (ls ms : List Link) (h l : ℕ) (xs : List ℕ) → h < 4608 → length ls ≡ 4608 + l
     → distinct xs ≡ true → holds l xs ≡ false → Ring ls h xs → InsertedAt e ls h ms → Ring ms h (placed e l xs)

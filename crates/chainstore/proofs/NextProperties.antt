@@ -5,12 +5,10 @@ use Rattle.std.proofs.lemmas.List.{reverse-append, reverse-reverse}
 use Rattle.std.proofs.lemmas.Bool.{eqb-true, eq-eqb, ne_eqb, and_parts, and_from, or_from, or_left, or_right, or_parts}
 use Rattle.std.proofs.lemmas.Bool.{or_cases, not-true, not_from_false, both_ways, cases_Bool, cases_eq, cond-true}
 use Rattle.std.proofs.lemmas.Bool.{cond-false}
+use Rattle.std.proofs.Math.Bool.{or_assoc}
 use Rattle.rules.specs.Meaning.{first_of, behind, next_in, without, holds, distinct, End, front, back, placed}
+use Rattle.rules.proofs.MeaningProperties.{distinct_push}
 use Rattle.chainstore.specs.Rings.{is_in, backward}
-
-or_assoc : (p q r : Bool) → (p || (q || r)) ≡ ((p || q) || r)
-or_assoc true q r = refl
-or_assoc false q r = refl
 
 or_swap : (p q : Bool) → (p || (q || false)) ≡ (q || p)
 or_swap true true = refl
@@ -24,11 +22,7 @@ or_second p q e h = sym (ap (λ b. b || q) e) ∙ h
 pub holds_append : (x : ℕ) (ys zs : List ℕ) → holds x (ys ++ zs) ≡ (holds x ys || holds x zs)
 holds_append x [] zs = refl
 holds_append x (y ∷ ys) zs =
-    ap (λ b. eqb y x || b) (holds_append x ys zs) ∙ or_assoc (eqb y x) (holds x ys) (holds x zs)
-
-pub holds_placed : (e : End) (x l : ℕ) (xs : List ℕ) → holds x (placed e l xs) ≡ (eqb l x || holds x xs)
-holds_placed front x l xs = refl
-holds_placed back x l xs = holds_append x xs (l ∷ []) ∙ or_swap (holds x xs) (eqb l x)
+    ap (λ b. eqb y x || b) (holds_append x ys zs) ∙ sym (or_assoc (eqb y x) (holds x ys) (holds x zs))
 
 pub reverse_cons : (x : ℕ) (xs : List ℕ) → reverse (x ∷ xs) ≡ reverse xs ++ x ∷ []
 reverse_cons x xs = reverse-append (x ∷ []) xs
@@ -43,30 +37,12 @@ pub is_in_reverse : (o : Option ℕ) (xs : List ℕ) → is_in o (reverse xs) �
 is_in_reverse None xs = refl
 is_in_reverse (Some x) xs = holds_reverse x xs
 
-pub distinct_push : (xs : List ℕ) (y : ℕ) → distinct xs ≡ true → holds y xs ≡ false → distinct (xs ++ y ∷ []) ≡ true
-distinct_push [] y d h = refl
-distinct_push (x ∷ xs) y d h =
-    let two = and_parts (not (holds x xs)) (distinct xs) d in
-    let parts = or_parts (eqb x y) (holds y xs) h in
-    let apart : eqb y x ≡ false = ne_eqb y x (λ e. both_ways (eqb x y) parts.0 (eq-eqb x y (sym e))) in
-    let none : holds x (xs ++ y ∷ []) ≡ false
-    = holds_append x xs (y ∷ [])
-    ∙ or_from (holds x xs) (eqb y x || false) (not-true (holds x xs) two.0)
-    (or_from (eqb y x) false apart refl) in
-    and_from (not (holds x (xs ++ y ∷ []))) (distinct (xs ++ y ∷ []))
-    (not_from_false (holds x (xs ++ y ∷ [])) none) (distinct_push xs y two.1 parts.1)
-
-pub distinct_placed : (e : End) (l : ℕ) (xs : List ℕ) → distinct xs ≡ true → holds l xs ≡ false
-    → distinct (placed e l xs) ≡ true
-distinct_placed front l xs d h = and_from (not (holds l xs)) (distinct xs) (not_from_false (holds l xs) h) d
-distinct_placed back l xs d h = distinct_push xs l d h
-
 pub distinct_reverse : (xs : List ℕ) → distinct xs ≡ true → distinct (reverse xs) ≡ true
 distinct_reverse [] d = refl
 distinct_reverse (x ∷ xs) d =
     let two = and_parts (not (holds x xs)) (distinct xs) d in
     ap distinct (reverse_cons x xs)
-    ∙ distinct_push (reverse xs) x (distinct_reverse xs two.1)
+    ∙ distinct_push x (reverse xs) (distinct_reverse xs two.1)
     (holds_reverse x xs ∙ not-true (holds x xs) two.0)
 
 pub record Parts (ys zs : List ℕ) : Type 0 where
@@ -129,12 +105,6 @@ without_split l (y ∷ ys) zs h =
     let two = or_parts (eqb y l) (holds l ys) h in
     cond-false (eqb y l) (ys ++ l ∷ zs) (y ∷ without l (ys ++ l ∷ zs)) two.0
     ∙ ap (λ r. y ∷ r) (without_split l ys zs two.1)
-
-pub without_absent : (l : ℕ) (xs : List ℕ) → holds l xs ≡ false → without l xs ≡ xs
-without_absent l [] h = refl
-without_absent l (x ∷ xs) h =
-    let two = or_parts (eqb x l) (holds l xs) h in
-    cond-false (eqb x l) xs (x ∷ without l xs) two.0 ∙ ap (λ r. x ∷ r) (without_absent l xs two.1)
 
 pub without_push : (x l : ℕ) (xs : List ℕ) → (l ≡ x → ⊥) → without x (xs ++ l ∷ []) ≡ without x xs ++ l ∷ []
 without_push x l [] n = cond-false (eqb l x) [] (l ∷ []) (ne_eqb l x n)
@@ -259,9 +229,3 @@ pub join_other : (ys zs : List ℕ) (o : Option ℕ) → is_in o ys ≡ true →
 join_other [] zs None h n = absurd (n refl)
 join_other (y ∷ ys) zs None h n = refl
 join_other ys zs (Some x) h n = join_some x ys zs h n
-
-pub behind_absent : (l : ℕ) (xs : List ℕ) → holds l xs ≡ false → behind l xs ≡ None
-behind_absent l [] h = refl
-behind_absent l (x ∷ xs) h =
-    let two = or_parts (eqb x l) (holds l xs) h in
-    cond-false (eqb x l) (first_of xs) (behind l xs) two.0 ∙ behind_absent l xs two.1

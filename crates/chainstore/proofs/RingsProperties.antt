@@ -5,12 +5,9 @@ use Rattle.std.proofs.lemmas.Bool.{eq-eqb, ne_eqb, or_cases, or_left, or_right, 
 use Rattle.std.proofs.lemmas.Bool.{cond-true, cond-false, and_parts, not-true}
 use Rattle.rules.specs.Meaning.{first_of, behind, next_in, holds, distinct}
 use Rattle.chainstore.specs.Rings.{cell_of, is_in}
+use Rattle.chainstore.specs.Linked.{Goes}
 use Rattle.chainstore.proofs.NextProperties.{or_second, holds_append, last_of, behind_skip, join_last, join_other}
 use Rattle.chainstore.proofs.NextProperties.{Parts, distinct_parts}
-
--- from each cell of the row to the next one, and from the last back to the head
-abbrev pub Goes : (ℕ → ℕ) → ℕ → List ℕ → Type 0
-Goes go h xs = (o : Option ℕ) → is_in o xs ≡ true → go (cell_of h o) ≡ cell_of h (next_in xs o)
 
 pub cell_of_same : (h : ℕ) (o p : Option ℕ) → h < 4608 → cell_of h o ≡ cell_of h p → o ≡ p
 cell_of_same h None None l e = refl

@@ -1,3 +1,4 @@
-pub mod Entries
 pub mod Rings
+pub mod Rows
+pub mod Linked
 pub mod Views

@@ -1,8 +1,19 @@
 -- Rings of cells: 4,608 heads, one for each indicator, and behind them a cell for each label.
 use Rattle.std.specs.Prelude.{◌≡◌, ℕ, ◌+◌, ◌-◌, ◌*◌, ◌<◌, Bool, true, cond, List, reverse, length, Some, None, Option}
-use Rattle.std.specs.Prelude.{◌≢◌, nat_lt, slice_index_or}
+use Rattle.std.specs.Prelude.{◌≢◌, ◌≤◌, nat_lt, slice_index_or}
 use Rattle.rules.specs.Meaning.{End, front, back, holds, next_in}
-use Rattle.chainstore.specs.declared.entry.Link.{Link}
+use Rattle.chainstore.specs.declared.note.Side.{Side}
+use Rattle.chainstore.specs.declared.note.Side.TheVariants.{Front, Back}
+use Rattle.chainstore.specs.declared.rings.Link.{Link}
+
+-- the links of all cells, by cell, and for how many labels there is room
+pub record Cells : Type 0 where
+  pub links : List Link
+  pub labels : ℕ
+
+abbrev pub end_of : Side → End
+end_of Front = front
+end_of Back = back
 
 abbrev pub head_of : ℕ → ℕ → ℕ
 head_of f a = f * 9 + a
@@ -33,11 +44,6 @@ after_at ls c = (slice_index_or ls c no_link).after
 abbrev pub before_at : List Link → ℕ → ℕ
 before_at ls c = (slice_index_or ls c no_link).before
 
--- the cell at one end of a ring
-abbrev pub besides : End → List Link → ℕ → ℕ
-besides front ls h = after_at ls h
-besides back ls h = before_at ls h
-
 -- a new last cell between p and q
 pub record Inserted (ls : List Link) (p q : ℕ) (ms : List Link) : Type 0 where
   pub after_new : after_at ms (length ls) ≡ q
@@ -58,7 +64,21 @@ pub record Bridged (ls : List Link) (p q : ℕ) (ms : List Link) : Type 0 where
   pub before_after : before_at ms q ≡ p
   pub before_others : (k : ℕ) → k ≢ q → before_at ms k ≡ before_at ls k
 
+-- each link leads to a cell
+pub record IsClosed (ls : List Link) : Type 0 where
+  pub after : (k : ℕ) → k < length ls → after_at ls k < length ls
+  pub before : (k : ℕ) → k < length ls → before_at ls k < length ls
+
 -- each of the first n cells is alone in its ring
 pub record Alone (n : ℕ) (ls : List Link) : Type 0 where
   pub after : (k : ℕ) → k < n → after_at ls k ≡ k
   pub before : (k : ℕ) → k < n → before_at ls k ≡ k
+
+-- what holds of all rings: the heads are there, each link leads to a cell, and there is memory for the cells of all
+-- labels
+pub record IsSound (ls : List Link) (memory labels : ℕ) : Type 0 where
+  pub heads : 4608 ≤ length ls
+  pub few : length ls ≤ 4608 + labels
+  pub reserved : 4608 + labels ≤ memory
+  pub small : labels ≤ 1024
+  pub closed : IsClosed ls

@@ -1,30 +1,23 @@
--- What a store means, and what making one answers.
-use Rattle.std.specs.Prelude.{◌≡◌, ℕ, true, false, List, Ok, Err, vec_items, Result}
-use Rattle.rules.specs.declared.store.MakeFault.{MakeFault}
-use Rattle.rules.specs.declared.store.MakeFault.TheVariants.{Size, Memory}
-use Rattle.rules.specs.Meaning.{Meaning, Fresh, ever_added, is_size}
-use Rattle.chainstore.specs.declared.entry.Entry.{Entry}
-use Rattle.chainstore.specs.declared.entry.Link.{Link}
+-- What a store means.
+use Rattle.std.specs.Prelude.{List}
+use Rattle.rules.specs.Meaning.{Meaning, ever_added}
+use Rattle.rules.specs.Tables.{Kept, rules_in}
+use Rattle.chainstore.specs.declared.note.Note.{Note}
+use Rattle.chainstore.specs.declared.rings.Link.{Link}
 use Rattle.chainstore.specs.declared.chain.ChainStore.{ChainStore}
-use Rattle.chainstore.specs.Entries.{row_of, values_of}
+use Rattle.chainstore.specs.Rows.{row_of}
 
-abbrev pub entries_of : ChainStore → List Entry
-entries_of s = vec_items s.entries
+abbrev pub kept_of : ChainStore → List (Kept Note)
+kept_of s = s.table.kept
 
 abbrev pub links_of : ChainStore → List Link
-links_of s = vec_items s.links
+links_of s = s.rings.links
 
 abbrev pub meaning_of : ChainStore → Meaning
 meaning_of s = record {
-  rules = values_of (vec_items s.nodes) (vec_items s.entries);
-  row = row_of (vec_items s.entries);
-  known = ever_added (values_of (vec_items s.nodes) (vec_items s.entries));
-  labels = s.labels;
-  space = s.space;
+  rules = rules_in s.table.kept;
+  row = row_of s.table.kept;
+  known = ever_added (rules_in s.table.kept);
+  labels = s.table.labels;
+  space = s.table.space;
 }
-
--- a fresh store of a size that a store has
-abbrev pub Makes : ℕ → ℕ → Result ChainStore MakeFault → Type 0
-Makes labels space (Ok s) = (is_size labels space ≡ true) × Fresh labels space (meaning_of s)
-Makes labels space (Err Size) = is_size labels space ≡ false
-Makes labels space (Err Memory) = is_size labels space ≡ true

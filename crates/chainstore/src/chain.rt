@@ -1,44 +1,50 @@
 //! The store: the rules by label, and the rings of their labels.
 
-ghost use Rattle.std.specs.Prelude.{◌≡◌, ℕ, ◌+◌, ◌≤◌, true, false, vec_len, vec_capacity, Option, slice_index_or};
+ghost use Rattle.std.specs.Prelude.{◌≡◌, ◌+◌, false, length, vec_len, slice_index_or};
 ghost use Rattle.rules.specs.declared.indicator.Indicator.{Indicator};
-ghost use Rattle.rules.specs.Meaning.{ever_added, next_in};
-ghost use Rattle.chainstore.specs.Entries.{row_of, values_of, laid};
-ghost use Rattle.chainstore.specs.Rings.{head_of, cell_of, is_in, after_at, before_at, backward};
+ghost use Rattle.rules.specs.Meaning.{Fresh, ever_added};
+ghost use Rattle.rules.specs.Calls.{Makes};
+ghost use Rattle.rules.specs.Tables.{rules_in, IsWithin};
+ghost use Rattle.chainstore.specs.Rings.{head_of};
+ghost use Rattle.chainstore.specs.Linked.{Linked};
 
-use crate::entry::{Entry, Link};
-use terms::Node;
+use crate::note::Note;
+use crate::rings::{HEADS, Rings};
+use rules::{MakeFault, RuleTable};
+use std::alloc::Global;
 
 mod calls;
-mod change;
-mod make;
 
-// At most `labels` rules with at most `space` nodes. The nodes of all rules stand one behind the other, in the order
-// of the labels. The ring of an indicator goes from its head through the cells of its row and back.
+/// The rules with a note on each, and the rings: that of an indicator goes from its head through the cells of its row
+/// and back. Of each head, `known` says whether a rule of its indicator was ever added.
 #[derive(Drop)]
 pub struct ChainStore {
-    nodes: Vec<Node>,
-    entries: Vec<Entry>,
-    links: Vec<Link>,
+    table: RuleTable<Note>,
+    rings: Rings,
     known: Vec<bool>,
-    labels: usize,
-    space: usize,
-    ghost few: { vec_len entries ≤ labels },
-    ghost reserved: { labels ≤ vec_capacity entries },
-    ghost small: { labels ≤ 1024 },
-    ghost filled: { vec_len nodes ≤ space },
-    ghost room: { space ≤ vec_capacity nodes },
-    ghost short: { space ≤ 65536 },
-    ghost cells: { vec_len links ≡ 4608 + vec_len entries },
-    ghost spare: { 4608 + labels ≤ vec_capacity links },
+    ghost within: { IsWithin table },
+    ghost cells: { length rings.links ≡ 4608 + length table.kept },
+    ghost spare: { rings.labels ≡ table.labels },
     ghost flags: { vec_len known ≡ 4608 },
-    ghost ordered: { laid 0 entries.items (vec_len nodes) ≡ true },
     ghost noted: { (i : Indicator) → slice_index_or known.items (head_of i.name i.arity) false
-        ≡ ever_added (values_of nodes.items entries.items) i.name i.arity },
-    ghost after: { (i : Indicator) (o : Option ℕ) → is_in o (row_of entries.items i.name i.arity) ≡ true
-        → after_at links.items (cell_of (head_of i.name i.arity) o)
-        ≡ cell_of (head_of i.name i.arity) (next_in (row_of entries.items i.name i.arity) o) },
-    ghost before: { (i : Indicator) (o : Option ℕ) → is_in o (row_of entries.items i.name i.arity) ≡ true
-        → before_at links.items (cell_of (head_of i.name i.arity) o)
-        ≡ cell_of (head_of i.name i.arity) (backward (row_of entries.items i.name i.arity) o) },
+        ≡ ever_added (rules_in table.kept) i.name i.arity },
+    ghost linked: { Linked table.kept rings.links },
+}
+
+impl ChainStore {
+    ghost use Rattle.chainstore.specs.Views.{meaning_of};
+
+    /// An empty store for so many labels, 1 to 1,024, and so many nodes, 256 to 65,536.
+    pub fn new(heap: Global, labels: usize, space: usize) -> Result<ChainStore, MakeFault>
+        ensures { Makes (λ s. Fresh labels space (meaning_of s)) labels space result }
+    {
+        let table = RuleTable::new(heap, labels, space)?;
+        let rings = Rings::new(heap, labels)?;
+        let known = vec![in heap; false; HEADS]?;
+        Ok(ChainStore {
+            table,
+            rings,
+            known,
+        })
+    }
 }

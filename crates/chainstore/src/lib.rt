@@ -3,7 +3,7 @@
 #![tactic(auto)]
 
 pub mod chain;
-mod entry;
-mod links;
+mod note;
+mod rings;
 
 pub use chain::ChainStore;

@@ -1,6 +1,9 @@
 -- A rule is written piece by piece: all of it, or it is longer than the line.
 use Rattle.std.proofs.Common.{◌≡◌, ℕ, ◌+◌, ◌<◌, true, false, List, [], ◌++◌, length, is_err, Ok, Err, Result, sym, ap}
 use Rattle.std.proofs.Common.{◌∙◌, append-nil, arith, length-append, leb-false}
+use Rattle.std.proofs.Common.{eqb, ◌&&◌, ◌∷◌, refl}
+use Rattle.std.specs.Cmp.Lexicographic.{pointwise}
+use Rattle.tokens.specs.Bytes.{same}
 use Rattle.tokens.proofs.BytesProperties.{false_true}
 use Rattle.writer.specs.declared.fault.DoesNotFit.{DoesNotFit}
 use Rattle.writer.specs.declared.line.LineWriter.{LineWriter}
@@ -36,31 +39,14 @@ pub record Line (w : LineWriter) (bytes seen : List ℕ) : Type 0 where
   pub numbers : line_seen w ≡ seen
   pub wide : line_limit w ≡ 65536
 
-pub term_on : (w v : LineWriter) (bytes seen : List ℕ) (t : Term) (x : Unit {0}) → Line w bytes seen → TermAdded w v t (Ok x)
-    → Line v (bytes ++ shown seen t) (firsts seen t)
-term_on w v bytes seen t x k a = record {
-  holds = a.bytes ∙ ap (λ b. b ++ shown (line_seen w) t) k.holds ∙ ap (λ s. bytes ++ shown s t) k.numbers;
-  numbers = a.seen ∙ ap (λ s. firsts s t) k.numbers;
-  wide = a.limit ∙ k.wide;
-}
-
-pub text_on : (w v : LineWriter) (bytes seen piece : List ℕ) (x : Unit {0}) → Line w bytes seen → TextAdded w v piece (Ok x)
-    → Line v (bytes ++ piece) seen
-text_on w v bytes seen piece x k a = record {
-  holds = a.bytes ∙ ap (λ b. b ++ piece) k.holds;
-  numbers = a.seen ∙ k.numbers;
-  wide = a.limit ∙ k.wide;
-}
-
 pub term_off : (w v : LineWriter) (bytes seen rest all : List ℕ) (t : Term) (e : DoesNotFit) → Line w bytes seen → TermAdded w v t (Err e)
     → (bytes ++ shown seen t) ++ rest ≡ all → 65536 < length all
 term_off w v bytes seen rest all t e k a h =
     piece_too_long w bytes (shown seen t) rest all k.holds k.wide h (a.value ∙ ap (λ s. fits w (shown s t)) k.numbers)
 
-pub text_off : (w v : LineWriter) (bytes seen piece rest all : List ℕ) (e : DoesNotFit) → Line w bytes seen → TextAdded w v piece (Err e)
-    → (bytes ++ piece) ++ rest ≡ all → 65536 < length all
-text_off w v bytes seen piece rest all e k a h = piece_too_long w bytes piece rest all k.holds k.wide h a.value
-
-pub text_ends : (w v : LineWriter) (r : Result (Unit {0}) DoesNotFit) (bytes seen piece all : List ℕ) → Line w bytes seen → TextAdded w v piece r
-    → bytes ++ piece ≡ all → WroteAs all (line_bytes v) r
-text_ends w v r bytes seen piece all k a h = last_piece w v r bytes piece (line_seen w) all k.holds k.wide h a
+-- `==` of two texts says whether they are the same
+pub pointwise_same : (xs ys : List ℕ) → pointwise eqb xs ys ≡ same xs ys
+pointwise_same [] [] = refl
+pointwise_same [] (y ∷ ys) = refl
+pointwise_same (x ∷ xs) [] = refl
+pointwise_same (x ∷ xs) (y ∷ ys) = ap (λ b. eqb x y && b) (pointwise_same xs ys)

@@ -9,7 +9,7 @@ use Rattle.terms.specs.Places.{node_at}
 use Rattle.terms.specs.Rows.{meaning}
 use Rattle.terms.specs.Term.{Term}
 use Rattle.text.specs.declared.answer.RuleText.{RuleText}
-use Rattle.text.specs.declared.span.Span.{Span}
+use Rattle.reader.specs.declared.span.Span.{Span}
 use Rattle.text.specs.Rules.{RuleRead}
 use Rattle.writer.specs.declared.fault.DoesNotFit.{DoesNotFit}
 use Rattle.writer.specs.Shown.{shown, firsts}

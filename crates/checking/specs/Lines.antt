@@ -1,12 +1,9 @@
 -- Lines of input: which are skipped, which are refused whatever they say, and what is kept of a line.
 use Rattle.std.specs.Prelude.{◌≡◌, ℕ, ◌+◌, Bool, true, false, cond, ◌||◌, List, [], ◌∷◌, length, take, Some, None}
 use Rattle.std.specs.Prelude.{Option, ◌==◌, nat_lt}
+use Rattle.checking.specs.Kept.{Kept, longest}
 use Rattle.checking.specs.declared.line.LineProblem.{LineProblem}
 use Rattle.checking.specs.declared.line.LineProblem.TheVariants.{BadByte, TooLong}
-
--- a line has at most so many bytes
-abbrev pub longest : ℕ
-longest = 1019
 
 -- the first byte that is no space, where this one was found before
 abbrev pub first_after : Option ℕ → ℕ → Option ℕ
@@ -42,7 +39,7 @@ abbrev pub problem_of : List ℕ → Option LineProblem
 problem_of s = cond (nat_lt longest (length s)) (Some TooLong) (bad_from 0 s)
 
 -- what is kept of the line s
-pub record Keeps (kept : List ℕ) (long : Bool) (first : Option ℕ) (s : List ℕ) : Type 0 where
-  pub front : kept ≡ take longest s
-  pub more : long ≡ nat_lt longest (length s)
-  pub begins : first ≡ first_from None s
+pub record Keeps (kept : Kept) (s : List ℕ) : Type 0 where
+  pub front : kept.bytes ≡ take longest s
+  pub more : kept.long ≡ nat_lt longest (length s)
+  pub begins : kept.first ≡ first_from None s

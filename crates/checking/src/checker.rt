@@ -24,7 +24,7 @@ use writer::{DoesNotFit, LineWriter};
 // More bytes than any rule within the limits has when it is written.
 const MAX_WRITTEN: usize = 65536;
 
-// All memory is reserved when the checker is made. Accepted rules bring their names into the table.
+/// All memory is reserved when the checker is made. Accepted rules bring their names into the table.
 #[derive(Drop)]
 pub struct RuleChecker {
     reader: TextReader,
@@ -36,7 +36,7 @@ pub struct RuleChecker {
 }
 
 impl RuleChecker {
-    // A checker that knows no names but those that every table begins with.
+    /// A checker that knows no names but those that every table begins with.
     pub fn new(heap: Global) -> Result<RuleChecker, AllocError>
         ensures { IfOk result (λ k. list k.names ≡ known) }
     {
@@ -52,22 +52,22 @@ impl RuleChecker {
         })
     }
 
-    // The rule that the line is, or why it is refused; a refused line leaves the names as they were.
+    /// The rule that the line is, or why it is refused; a refused line leaves the names as they were.
     pub fn check(&mut self, line: &LineBuffer) -> Result<RuleText, Refusal>
-        ensures { (s : List ℕ) → Keeps line.now.bytes.items line.now.long line.now.first s
+        ensures { (s : List ℕ) → Keeps line.now s
             → Checked (list self.old.names) s (list self.new.names) (row_nodes self.new.row)
             (reader_spans self.new.reader) result }
     {
         if let Some(problem) = line.problem() {
             return Err(Refusal::Line(problem));
         }
-        let rule = self
-            .reader
-            .rule(line.bytes(), &mut self.names, &mut self.row)?;
-        Ok(rule)
+        Ok(
+            self.reader
+                .rule(line.bytes(), &mut self.names, &mut self.row)?,
+        )
     }
 
-    // Writes the rule: `head.` if its body is `true`, else `head :- body.`
+    /// Writes the rule: `head.` if its body is `true`, else `head :- body.`
     pub fn write(&mut self, rule: RuleText) -> Result<(), DoesNotFit>
         ensures { Wrote (list self.old.names) (row_nodes self.old.row) rule (line_bytes self.new.writer) result }
     {
@@ -81,7 +81,7 @@ impl RuleChecker {
         self.writer.text(b".")
     }
 
-    // What was written last.
+    /// What was written last.
     pub fn written(&self) -> &[u8]
         ensures { result.now ≡ line_bytes self.now.writer }
     {
@@ -93,19 +93,7 @@ impl RuleChecker {
         ensures { result ≡ is_true (list self.now.names) (node_at (row_nodes self.now.row) at) }
     {
         match self.row.node(at) {
-            Some(
-                Node::App {
-                    name,
-                    arity,
-                    args: _,
-                },
-            ) => {
-                if arity == 0 {
-                    self.is_named_true(name)
-                } else {
-                    false
-                }
-            }
+            Some(Node::App { name, arity: 0, .. }) => self.is_named_true(name),
             _ => false,
         }
     }
@@ -113,15 +101,6 @@ impl RuleChecker {
     fn is_named_true(&self, name: u16) -> bool
         ensures { result ≡ same (slice_index_or (list self.now.names) name []) true_name }
     {
-        match self.names.get(name) {
-            Some(bytes) => is_text(bytes, b"true"),
-            None => false,
-        }
+        self.names.get(name).unwrap_or(b"") == b"true".as_slice()
     }
-}
-
-fn is_text(bytes: &[u8], text: &[u8]) -> bool
-    ensures { result ≡ same bytes.now text.now }
-{
-    bytes == text
 }

@@ -1,16 +1,17 @@
 //! Why a line is refused: the number, the place and kind of a fault of the grammar, and a sentence for the owner.
 
-ghost use Rattle.std.specs.Prelude.{◌≡◌};
+ghost use Rattle.std.specs.Prelude.{◌≡◌, Some};
 ghost use Rattle.checking.specs.Refusals.{number_of, fault_of, word_of, sentence_of, line_sentence, grammar_sentence};
 ghost use Rattle.checking.specs.Refusals.{limit_sentence, head_sentence, grammar_fault};
 ghost use Rattle.checking.specs.declared.refusal.Refusal.TheVariants.{Line as of_line, Text as of_text};
 
 use crate::line::LineProblem;
 use reader::fault::{LineFault, TermFault};
+use std::fmt;
 use text::{HeadFault, LimitFault, TextFault};
-use tokens::scan::TokenFault;
+use tokens::scan::TokenFault::{Stray, Unclosed};
 
-// A line that is refused whatever it says, or a text that is no rule.
+/// A line that is refused whatever it says, or a text that is no rule.
 #[derive(Clone, Copy)]
 pub enum Refusal {
     Line(LineProblem),
@@ -33,92 +34,82 @@ impl From<TextFault> for Refusal {
     }
 }
 
-// What of a text breaks the grammar: a token, a term in brackets, or the line.
-#[derive(Clone, Copy)]
+/// What of a text breaks the grammar: a token, a term in brackets, or the line.
+#[derive(Clone, Copy, Debug, PartialEq, Eq)]
 pub enum FaultKind {
     Token,
     Term,
     Line,
 }
 
-// The index of the first bad byte, and what it breaks.
-#[derive(Clone, Copy)]
+/// The index of the first bad byte, and what it breaks.
+#[derive(Clone, Copy, Debug, PartialEq, Eq)]
 pub struct Fault {
     pub place: usize,
     pub kind: FaultKind,
 }
 
-impl FaultKind {
-    // The word for it.
-    pub fn word(&self) -> &'static str
-        ensures { result.now ≡ word_of self.now }
-    {
-        match self {
+impl fmt::Display for FaultKind {
+    ghost output = { λ kind. Some (word_of kind) };
+
+    fn fmt<W: fmt::Write>(&self, f: &mut fmt::Formatter<W>) -> fmt::Result {
+        f.write_str(match self {
             FaultKind::Token => "token",
             FaultKind::Term => "term",
             FaultKind::Line => "line",
-        }
+        })
+    }
+}
+
+impl From<LineFault> for Fault {
+    ghost from_gives = { λ e r. r ≡ grammar_fault e };
+
+    fn from(fault: LineFault) -> Fault {
+        let (place, kind) = match fault {
+            LineFault::Term(TermFault::Token(Stray(at) | Unclosed(at))) => (at, FaultKind::Token),
+            LineFault::Term(TermFault::Unexpected { at, .. }) => (at, FaultKind::Term),
+            LineFault::Unexpected(at) => (at, FaultKind::Line),
+        };
+        Fault { place, kind }
     }
 }
 
 impl Refusal {
-    // The number under which the line is refused.
+    /// The number under which the line is refused.
     pub fn number(&self) -> u8
         ensures { result ≡ number_of self.now }
     {
         match self {
-            Refusal::Line(_) => 1,
-            Refusal::Text(TextFault::TooLong) => 1,
+            Refusal::Line(_) | Refusal::Text(TextFault::TooLong) => 1,
             Refusal::Text(TextFault::Grammar(_)) => 4,
             Refusal::Text(TextFault::Limit(_)) => 5,
             Refusal::Text(TextFault::Head(_)) => 6,
         }
     }
 
-    // Where the grammar is broken, and by what.
+    /// Where the grammar is broken, and by what.
     pub fn fault(&self) -> Option<Fault>
         ensures { result ≡ fault_of self.now }
     {
         match self {
-            Refusal::Text(TextFault::Grammar(fault)) => Some(grammar_fault(*fault)),
+            Refusal::Text(TextFault::Grammar(fault)) => Some(Fault::from(*fault)),
             _ => None,
-        }
-    }
-
-    // What is wrong, in a sentence.
-    pub fn sentence(&self) -> &'static str
-        ensures { result.now ≡ sentence_of self.now }
-    {
-        match self {
-            Refusal::Line(problem) => line_sentence(*problem),
-            Refusal::Text(TextFault::TooLong) => line_sentence(LineProblem::TooLong),
-            Refusal::Text(TextFault::Grammar(fault)) => grammar_sentence(*fault),
-            Refusal::Text(TextFault::Limit(fault)) => limit_sentence(*fault),
-            Refusal::Text(TextFault::Head(fault)) => head_sentence(*fault),
         }
     }
 }
 
-fn grammar_fault(fault: LineFault) -> Fault
-    ensures { result ≡ grammar_fault fault }
-{
-    match fault {
-        LineFault::Term(TermFault::Token(TokenFault::Stray(at))) => Fault {
-            place: at,
-            kind: FaultKind::Token,
-        },
-        LineFault::Term(TermFault::Token(TokenFault::Unclosed(at))) => Fault {
-            place: at,
-            kind: FaultKind::Token,
-        },
-        LineFault::Term(TermFault::Unexpected { at, left: _ }) => Fault {
-            place: at,
-            kind: FaultKind::Term,
-        },
-        LineFault::Unexpected(at) => Fault {
-            place: at,
-            kind: FaultKind::Line,
-        },
+// What is wrong, in a sentence.
+impl fmt::Display for Refusal {
+    ghost output = { λ refusal. Some (sentence_of refusal) };
+
+    fn fmt<W: fmt::Write>(&self, f: &mut fmt::Formatter<W>) -> fmt::Result {
+        f.write_str(match *self {
+            Refusal::Line(problem) => line_sentence(problem),
+            Refusal::Text(TextFault::TooLong) => line_sentence(LineProblem::TooLong),
+            Refusal::Text(TextFault::Grammar(fault)) => grammar_sentence(fault),
+            Refusal::Text(TextFault::Limit(fault)) => limit_sentence(fault),
+            Refusal::Text(TextFault::Head(fault)) => head_sentence(fault),
+        })
     }
 }
 
@@ -135,13 +126,10 @@ fn grammar_sentence(fault: LineFault) -> &'static str
     ensures { result.now ≡ grammar_sentence fault }
 {
     match fault {
-        LineFault::Term(TermFault::Token(TokenFault::Stray(_))) =>
-            "No token begins with this character here.",
-        LineFault::Term(TermFault::Token(TokenFault::Unclosed(_))) =>
-            "A quoted name is not closed.",
-        LineFault::Term(TermFault::Unexpected { at: _, left: _ }) => {
-            "The term inside the brackets cannot go on like this."
-        }
+        LineFault::Term(TermFault::Token(Stray(_))) => "No token begins with this character here.",
+        LineFault::Term(TermFault::Token(Unclosed(_))) => "A quoted name is not closed.",
+        LineFault::Term(TermFault::Unexpected { .. }) =>
+            "The term inside the brackets cannot go on like this.",
         LineFault::Unexpected(_) => "The rule cannot go on like this.",
     }
 }

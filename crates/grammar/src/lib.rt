@@ -4,18 +4,14 @@
 
 ghost use Rattle.grammar.specs.Theorem.{Exact, OneSentence, AllRead};
 
-// The reader of bytes that the definitions give is right about every text: it reads exactly the texts of the
-// grammar, and stops at the least place where no text goes on.
-pub fn reads_exactly() -> u8
+/// The reader of bytes that the definitions give is right about every text: it reads exactly the texts of the
+/// grammar, and stops at the least place where no text goes on.
+pub fn reads_exactly()
     ensures { Exact }
-{
-    0
-}
+{}
 
-// A text is at most one rule or query, and is read as that.
-pub fn reads_one_way() -> u8
+/// A text is at most one rule or query, and is read as that.
+pub fn reads_one_way()
     ensures one { OneSentence }
     ensures read { AllRead }
-{
-    0
-}
+{}

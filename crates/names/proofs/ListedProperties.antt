@@ -1,10 +1,10 @@
 -- Lists of names: what one name more and a shorter list keep, and that each name of a list with no name twice
 -- is found at its own place.
 use Rattle.std.proofs.Common.{◌≡◌, ℕ, zero, suc, ◌+◌, ◌<◌, ◌≤◌, true, false, cond, not, ltb, leb, List, [], ◌∷◌, ◌++◌}
-use Rattle.std.proofs.Common.{length, get_or, take, drop, Some, None, Option, sym, refl, ap, ◌∙◌, inl, inr, arith}
+use Rattle.std.proofs.Common.{length, get_or, take, Some, None, Option, sym, refl, ap, ◌∙◌, inl, inr, arith}
 use Rattle.std.specs.Str.{bytes_eq}
 use Rattle.std.proofs.lemmas.Slice.Eq.{bytes_eq-Decides}
-use Rattle.std.proofs.lemmas.List.{at_drop_more, at_drop_all}
+use Rattle.std.specs.Option.{MatchOption}
 use Rattle.std.proofs.lemmas.Bool.{and_parts, and_from, leb-true, le-leb, not-true, not_from_false, both_ways}
 use Rattle.std.proofs.lemmas.Bool.{cases_Bool, or_parts, or_from, cond-true, cond-false, lt-ltb, le-ltb, cases_lt}
 use Rattle.terms.specs.Known.{known}
@@ -87,6 +87,12 @@ distinct_take (suc k) (x ∷ xs) h =
 
 -- where a name stands
 
+apart_from : (x name : List ℕ) → (x ≡ name → ⊥) → bytes_eq x name ≡ false
+apart_from x name ne = elim (cases_Bool (bytes_eq x name)) [
+  | inl t ↦ absurd (ne ((bytes_eq-Decides x name).0 t))
+  | inr f ↦ f
+]
+
 place_from_other :
     (k : ℕ) (x name : List ℕ) (xs : List (List ℕ)) → bytes_eq x name ≡ false
     → place_from k (x ∷ xs) name ≡ place_from (k + 1) xs name
@@ -108,27 +114,40 @@ place_from_none k (x ∷ xs) name h = elim (cases_Bool (bytes_eq x name)) [
       (place_from_none (k + 1) xs name (sym (place_from_other k x name xs f) ∙ h))
 ]
 
--- one step of a search, and its end
+-- what a search of the places from the first on finds
 
-pub place_from_at :
-    (xs : List (List ℕ)) (i : ℕ) (name : List ℕ) → i < length xs → get_or xs i [] ≡ name
-    → place_from i (drop i xs) name ≡ Some i
-place_from_at xs i name l e =
-    at_drop_more (λ ys. place_from i ys name) xs i [] l ∙ place_from_same i (get_or xs i []) name (drop (i + 1) xs)
-    ((bytes_eq-Decides (get_or xs i []) name).1 e)
+place_from_first :
+    (j : ℕ) (xs : List (List ℕ)) (name : List ℕ) (i : ℕ) → i < length xs → get_or xs i [] ≡ name
+    → ((k : ℕ) → k < i → get_or xs k [] ≡ name → ⊥) → place_from j xs name ≡ Some (j + i)
+place_from_first j [] name i l e others = absurd (omega arith)
+place_from_first j (x ∷ xs) name zero l e others =
+    place_from_same j x name xs ((bytes_eq-Decides x name).1 e) ∙ ap Some (omega arith)
+place_from_first j (x ∷ xs) name (suc i) l e others =
+    place_from_other j x name xs (apart_from x name (others 0 (omega arith)))
+    ∙ place_from_first (j + 1) xs name i (omega arith) e (λ k m. others (suc k) (omega arith))
+    ∙ ap Some (omega arith)
 
-pub place_from_step :
-    (xs : List (List ℕ)) (i : ℕ) (name : List ℕ) → i < length xs → (get_or xs i [] ≡ name → ⊥)
-    → place_from (i + 1) (drop (i + 1) xs) name ≡ place_from i (drop i xs) name
-place_from_step xs i name l ne =
-    let f : bytes_eq (get_or xs i []) name ≡ false =
-    elim (cases_Bool (bytes_eq (get_or xs i []) name))
-    [ inl t ↦ absurd (ne ((bytes_eq-Decides (get_or xs i []) name).0 t)) | inr f ↦ f ] in
-    sym (at_drop_more (λ ys. place_from i ys name) xs i [] l ∙ place_from_other i (get_or xs i []) name (drop (i + 1) xs)
-    f)
+place_from_nowhere :
+    (j : ℕ) (xs : List (List ℕ)) (name : List ℕ) → ((k : ℕ) → k < length xs → get_or xs k [] ≡ name → ⊥)
+    → place_from j xs name ≡ None
+place_from_nowhere j [] name others = refl
+place_from_nowhere j (x ∷ xs) name others =
+    place_from_other j x name xs (apart_from x name (others 0 (omega arith)))
+    ∙ place_from_nowhere (j + 1) xs name (λ k m. others (suc k) (omega arith))
 
-pub place_from_end : (xs : List (List ℕ)) (i : ℕ) (name : List ℕ) → length xs ≤ i → place_from i (drop i xs) name ≡ None
-place_from_end xs i name l = at_drop_all (λ ys. place_from i ys name) xs i l
+-- what `find` over all the places says of them
+abbrev Searched : List (List ℕ) → List ℕ → ℕ → Option ℕ → Type 0
+Searched xs name n r =
+    MatchOption r ((k : ℕ) → 0 ≤ k → k < n → get_or xs k [] ≡ name → ⊥)
+    (λ i. (0 ≤ i) × (i < n) × (get_or xs i [] ≡ name) × ((k : ℕ) → 0 ≤ k → k < i → get_or xs k [] ≡ name → ⊥))
+
+pub place_of_searched :
+    (xs : List (List ℕ)) (name : List ℕ) (n : ℕ) (r : Option ℕ) → n ≡ length xs → Searched xs name n r
+    → r ≡ place_of xs name
+place_of_searched xs name n None e h =
+    sym (place_from_nowhere 0 xs name (λ k l. h k (omega arith) (omega arith)))
+place_of_searched xs name n (Some i) e h =
+    sym (place_from_first 0 xs name i (omega arith) h.2 (λ k l. h.3 k (omega arith) l) ∙ ap Some (omega arith))
 
 -- each name stands at its own place
 

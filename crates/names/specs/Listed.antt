@@ -1,7 +1,8 @@
 -- What holds of the list of names of a table (short names, no name twice, the known names first),
 -- and where a name stands.
-use Rattle.std.specs.Prelude.{◌≡◌, ℕ, ◌+◌, ◌<◌, ◌≤◌, Bool, true, false, cond, not, ◌&&◌, ◌||◌, List, [], ◌∷◌, length}
+use Rattle.std.specs.Prelude.{◌≡◌, ℕ, ◌+◌, ◌<◌, ◌≤◌, Bool, true, false, cond, not, ◌&&◌, List, [], ◌∷◌, length}
 use Rattle.std.specs.Prelude.{take, Some, None, Option, ◌≢◌, nat_le, nat_lt, slice_index_or}
+use Rattle.std.specs.List.{list_all, list_any, position_from}
 use Rattle.std.specs.Str.{bytes_eq}
 use Rattle.terms.specs.Known.{known}
 
@@ -12,13 +13,11 @@ total (x ∷ xs) = length x + total xs
 
 -- no name has more than 64 bytes
 abbrev pub short : List (List ℕ) → Bool
-short [] = true
-short (x ∷ xs) = nat_le (length x) 64 && short xs
+short names = list_all (λ x. nat_le (length x) 64) names
 
 -- the name stands among the names
 abbrev pub held : List ℕ → List (List ℕ) → Bool
-held name [] = false
-held name (x ∷ xs) = bytes_eq x name || held name xs
+held name names = list_any (λ x. bytes_eq x name) names
 
 -- no name stands twice
 abbrev pub distinct : List (List ℕ) → Bool
@@ -33,8 +32,7 @@ begins (x ∷ xs) (y ∷ ys) = bytes_eq x y && begins xs ys
 
 -- the first place where the name stands, where the first name has the place i
 abbrev pub place_from : ℕ → List (List ℕ) → List ℕ → Option ℕ
-place_from i [] name = None
-place_from i (x ∷ xs) name = cond (bytes_eq x name) (Some i) (place_from (i + 1) xs name)
+place_from i names name = position_from (λ x. bytes_eq x name) i names
 
 abbrev pub place_of : List (List ℕ) → List ℕ → Option ℕ
 place_of names name = place_from 0 names name

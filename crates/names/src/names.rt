@@ -14,7 +14,8 @@ pub const MAX_NAMES: usize = 512;
 
 pub const MAX_BYTES: usize = 8192;
 
-// The name with the number i is `bytes[bounds[i]..bounds[i + 1]]`, so there is one bound more than there are names.
+/// The name with the number i is `bytes[bounds[i]..bounds[i + 1]]`, so there is one bound more than there are names.
+/// Two vectors and not one of texts, since memory is fixed: all of it is reserved when the table is made.
 #[derive(Drop)]
 pub struct Names {
     bytes: Vec<u8>,

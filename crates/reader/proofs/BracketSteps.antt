@@ -20,7 +20,7 @@ use Rattle.reader.specs.declared.op.Op.{Op}
 use Rattle.reader.specs.declared.op.Op.TheVariants as op
 use Rattle.reader.specs.declared.fault.TermFault.{TermFault}
 use Rattle.reader.specs.declared.fault.TermFault.TheVariants as term_fault
-use Rattle.reader.specs.declared.term.Many.{Many}
+use Rattle.reader.specs.Reading.{Many}
 use Rattle.reader.specs.Ops.{Stack, run, run_from, pushed}
 use Rattle.reader.specs.Reading.{Admits, quote_open, Reaches, Breaks, Faulted, ManyReach, ManyBreak, ArgumentsReach}
 use Rattle.reader.specs.Reading.{ArgumentsBreak}
@@ -120,35 +120,23 @@ conj_built line mid count ts t st h c =
     ∙ ap (λ j. again comma_name j (pushed (with_last ts t) st)) e
     ∙ conj_of_all ts t st
 
-opening_no_quote : Opening ≡ Quote → ⊥
-opening_no_quote e = let z : ◌≡◌ {A = ℕ} 0 1 = cc in omega arith
-
-opening_no_space : Opening ≡ Space → ⊥
-opening_no_space e = let z : ◌≡◌ {A = ℕ} 0 1 = cc in omega arith
-
-opening_no_stray : Opening ≡ Stray → ⊥
-opening_no_stray e = let z : ◌≡◌ {A = ℕ} 0 1 = cc in omega arith
-
-closing_no_quote : Closing ≡ Quote → ⊥
-closing_no_quote e = let z : ◌≡◌ {A = ℕ} 0 1 = cc in omega arith
-
 even_inside : (n : ℕ) (line : List ℕ) (a : ℕ) (y : Many) (before mid : List Op) (close : ℕ)
     → head_kind (drop a line) ≡ Opening → ManyReach n line (a + 1) y before mid
     → drop close line ≡ past space (drop y.end line) → quote_open line a ≡ quote_open line close
 even_inside n line a y before mid close h g s =
-    even_past_byte line a Opening (sym h) opening_no_quote ∙ g.even ∙ even_past_spaces line y.end close s
+    even_past_byte line a Opening (sym h) (λ e. cc) ∙ g.even ∙ even_past_spaces line y.end close s
 
 -- a bracket where a term must begin
 round_on : (m n : ℕ) (x : Context) (line : List ℕ) (a : ℕ) → a < length line → head_kind (drop a line) ≡ Opening
     → onward sentences m (Some (operand n x)) (drop a line)
     ≡ taken_or n (bracket n (round x)) (drop a line) (drop (a + 1) line)
-round_on m n x line a l h = mark_on m n x line a Opening (opening false) l h opening_no_space (λ c. refl)
+round_on m n x line a l h = mark_on m n x line a Opening (opening false) l h (λ e. cc) (λ c. refl)
 
 pub round_too_deep : {n : ℕ} {line : List ℕ} {a : ℕ} → a < length line → head_kind (drop a line) ≡ Opening → n ≡ 0
     → Breaks n line a (term_fault.Unexpected a n)
 round_too_deep {n} {line} {a} l h e =
     breaks_there n line a a (term_fault.Unexpected a n)
-    (misplaced line a n Opening h opening_no_quote opening_no_stray) refl (omega arith)
+    (misplaced line a n Opening h (λ e. cc) (λ e. cc)) refl (omega arith)
     (λ m x d. round_on m n x line a l h ∙ none_left n (round x) (drop a line) (drop (a + 1) line) e)
 
 pub round_breaks : {n : ℕ} {line : List ℕ} {a : ℕ} {f : TermFault} → a < length line
@@ -158,7 +146,7 @@ round_breaks {n} {line} {a} {f} l h z g = record {
   on = λ m x d. round_on m n x line a l h ∙ enters m n (round x) (drop a line) (drop (a + 1) line) z
       ∙ g.on m (round x) nil (λ i. refl);
   blamed = blamed_earlier line a (a + 1) f g.left g.blamed
-      (even_past_byte line a Opening (sym h) opening_no_quote);
+      (even_past_byte line a Opening (sym h) (λ e. cc));
   within = g.within;
 }
 
@@ -180,7 +168,7 @@ round_reaches {n} {line} {a} {y} {before} {mid} {behind} {close} l h z g s v k u
       builds = ap (run line) b
           ∙ conj_built line mid y.count g.terms g.last (run line before) g.builds g.counted;
       even = even_inside (n - 1) line a y before mid close h g s
-          ∙ even_past_byte line close Closing k closing_no_quote;
+          ∙ even_past_byte line close Closing k (λ e. cc);
       forward = omega arith;
       within = omega arith;
     }
@@ -231,7 +219,7 @@ arguments_too_deep {n} {line} {a} l h e = record {
   left = n;
   on = λ m b x. arguments_on m n b x line a h ∙ none_left n (arguments b x) (drop a line) (drop (a + 1) line) e;
   blamed = blamed_from_before line a a (term_fault.Unexpected a n) n
-      (misplaced line a n Opening h opening_no_quote opening_no_stray) refl;
+      (misplaced line a n Opening h (λ e. cc) (λ e. cc)) refl;
   within = omega arith;
 }
 
@@ -242,7 +230,7 @@ arguments_break {n} {line} {a} {f} h z g = record {
   on = λ m b x. arguments_on m n b x line a h ∙ enters m n (arguments b x) (drop a line) (drop (a + 1) line) z
       ∙ g.on m (arguments b x) nil (λ i. refl);
   blamed = blamed_earlier line a (a + 1) f g.left g.blamed
-      (even_past_byte line a Opening (sym h) opening_no_quote);
+      (even_past_byte line a Opening (sym h) (λ e. cc));
   within = g.within;
 }
 
@@ -265,7 +253,7 @@ arguments_reach {n} {line} {a} {y} {z} {before} {mid} {close} h l g s v k u p q 
       builds = g.builds;
       counted = q ∙ g.counted ∙ sym (size_with_last g.terms g.last);
       even = even_inside (n - 1) line a y before mid close h g s
-          ∙ even_past_byte line close Closing k closing_no_quote ∙ ap (λ p. quote_open line p) (sym p);
+          ∙ even_past_byte line close Closing k (λ e. cc) ∙ ap (λ p. quote_open line p) (sym p);
       forward = omega arith;
       within = omega arith;
     }

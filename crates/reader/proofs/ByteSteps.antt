@@ -3,10 +3,9 @@ use Rattle.std.proofs.Common.{◌≡◌, ℕ, zero, suc, ◌+◌, Bool, true, fa
 use Rattle.std.proofs.Common.{◌∙◌, arith}
 use Rattle.tokens.specs.declared.kind.Kind.{Kind}
 use Rattle.tokens.specs.declared.kind.Kind.TheVariants.{Symbol, Quote}
-use Rattle.tokens.specs.declared.scan.Found.{Found}
 use Rattle.tokens.specs.Bytes.{past, space}
-use Rattle.tokens.specs.Token.{Token, scan, spaced, got}
-use Rattle.tokens.specs.Scanning.{head_kind, from, scan_of, Stands}
+use Rattle.tokens.specs.Token.{scan, spaced}
+use Rattle.tokens.specs.Scanning.{head_kind}
 use Rattle.tokens.proofs.BytesProperties.{drop_past_the_end}
 use Rattle.grammar.specs.Faults.{inside_quote}
 use Rattle.grammar.specs.Written.{Written}
@@ -15,7 +14,7 @@ use Rattle.grammar.specs.Sentences.{Context, operand, after, sentences}
 use Rattle.grammar.specs.Places.{tail_of, operand_by, is_head, after_by}
 use Rattle.reader.specs.Reading.{Admits, quote_open}
 use Rattle.grammar.proofs.PlaceProperties.{operand_on, after_on}
-use Rattle.grammar.proofs.QuoteParity.{spaces_even, single_even, scan_even}
+use Rattle.grammar.proofs.QuoteParity.{spaces_even, single_even}
 
 pub tail_is_next : (s : List ℕ) (i : ℕ) → tail_of (drop i s) ≡ drop (i + 1) s
 tail_is_next [] zero = sym (drop_past_the_end [] (0 + 1) (omega arith))
@@ -61,18 +60,3 @@ pub even_past_byte : (line : List ℕ) (i : ℕ) (k : Kind) → k ≡ head_kind 
     → quote_open line i ≡ quote_open line (i + 1)
 even_past_byte line i k h q =
     single_even (drop i line) (λ e. q (h ∙ e)) ∙ ap (λ r. inside_quote false r) (tail_is_next line i)
-
--- the token that was found behind the spaces
-pub operand_at : (m n : ℕ) (x : Context) (line : List ℕ) (pos : ℕ) (f : Found) → Stands line f
-    → drop f.start line ≡ from line pos
-    → onward sentences m (Some (operand n x)) (drop pos line)
-    ≡ operand_by n x (drop f.start line) (scan_of f.token (drop f.end line))
-operand_at m n x line pos f g s =
-    operand_on m n x (drop pos line) ∙ ap (λ r. operand_by n x r (scan spaced r)) (sym s)
-    ∙ ap (operand_by n x (drop f.start line)) g.is
-
-pub even_past_token : (line : List ℕ) (pos : ℕ) (f : Found) (t : Token) → Stands line f
-    → drop f.start line ≡ from line pos → scan_of f.token (drop f.end line) ≡ got t (drop f.end line)
-    → quote_open line pos ≡ quote_open line f.end
-even_past_token line pos f t g s e = even_past_spaces line pos f.start s
-    ∙ scan_even spaced (drop f.start line) t (drop f.end line) (g.is ∙ e)

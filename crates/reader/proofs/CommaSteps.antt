@@ -1,6 +1,6 @@
 -- Terms with commas between: one more term, and the last one.
-use Rattle.std.proofs.Common.{◌≡◌, ℕ, ◌+◌, ◌≤◌, false, List, ◌∷◌, drop, Some, sym, refl, ap, ◌∙◌, subst, arith}
-use Rattle.tokens.specs.declared.kind.Kind.TheVariants.{Quote, Comma}
+use Rattle.std.proofs.Common.{◌≡◌, ℕ, ◌+◌, ◌≤◌, false, List, ◌∷◌, length, drop, Some, sym, refl, ap, ◌∙◌, subst, arith}
+use Rattle.tokens.specs.declared.kind.Kind.TheVariants.{Comma}
 use Rattle.tokens.specs.Bytes.{past, space}
 use Rattle.tokens.specs.Scanning.{head_kind}
 use Rattle.grammar.specs.Written.{Written, Writtens, nil, cons, join, with_last}
@@ -11,13 +11,12 @@ use Rattle.grammar.specs.Places.{tail_of}
 use Rattle.grammar.proofs.SentenceTo.{join_assoc}
 use Rattle.reader.specs.declared.op.Op.{Op}
 use Rattle.reader.specs.declared.fault.TermFault.{TermFault}
-use Rattle.reader.specs.declared.term.Many.{Many}
 use Rattle.reader.specs.Ops.{run}
-use Rattle.reader.specs.Reading.{Admits, bare_square, quote_open, Reaches, Breaks, ManyReach, ManyBreak}
+use Rattle.reader.specs.Reading.{Admits, bare_square, Reaches, Breaks, ManyReach, ManyBreak}
 use Rattle.reader.specs.Along.{Along}
 use Rattle.reader.proofs.OpsProperties.{pushed_join, size_with_last}
 use Rattle.reader.proofs.BlameProperties.{blamed_earlier}
-use Rattle.reader.proofs.ByteSteps.{tail_is_next, after_at, even_past_spaces, even_past_byte}
+use Rattle.reader.proofs.ByteSteps.{tail_is_next, past_twice, after_at, even_past_spaces, even_past_byte}
 use Rattle.grammar.proofs.StepProperties.{any_count}
 
 join_nil : (us : Writtens) → join us nil ≡ us
@@ -43,9 +42,6 @@ none_yet {n} {line} {pos} {before} = record {
   even = refl;
 }
 
-comma_no_quote : Comma ≡ Quote → ⊥
-comma_no_quote e = let z : ◌≡◌ {A = ℕ} 0 1 = cc in omega arith
-
 pub one_more : (next : ℕ) {n : ℕ} {line : List ℕ} {pos at end count : ℕ} {before mid behind : List Op}
     → Along n line pos at count before mid → Reaches n line at end mid behind
     → drop next line ≡ past space (drop end line) → Comma ≡ head_kind (drop next line)
@@ -67,30 +63,42 @@ one_more next {n} {line} {pos} {at} {end} {count} {before} {mid} {behind} g t s 
       builds = t.builds ∙ ap (λ st. t.term ∷ st) g.builds
           ∙ sym (pushed_join g.terms (cons t.term nil) (run line before));
       counted = omega arith;
-      even = g.even ∙ t.even ∙ even_past_spaces line end next s ∙ even_past_byte line next Comma k comma_no_quote;
+      even = g.even ∙ t.even ∙ even_past_spaces line end next s ∙ even_past_byte line next Comma k (λ e. cc);
     }
 
-pub the_last : (next : ℕ) {n : ℕ} {line : List ℕ} {pos at end count : ℕ} {y : Many} {before mid behind : List Op}
+-- behind a term in brackets, or among goals, spaces change nothing
+past_spaces : (m n : ℕ) (t : Written) (h : Holder) (us : Writtens) (line : List ℕ) (e next : ℕ)
+    → drop next line ≡ past space (drop e line)
+    → onward sentences m (Some (after t n (among h us))) (drop e line)
+    ≡ onward sentences m (Some (after t n (among h us))) (drop next line)
+past_spaces m n t h us line e next s =
+    let twice : drop next line ≡ past space (drop next line)
+    = sym (ap (past space) s ∙ past_twice space (drop e line) ∙ sym s) in
+    after_at m n t (among h us) line e next (head_kind (drop next line)) s refl (λ i. refl)
+    ∙ sym (after_at m n t (among h us) line next next (head_kind (drop next line)) twice refl (λ i. refl))
+
+pub the_last : (next : ℕ) {n : ℕ} {line : List ℕ} {pos at end count : ℕ} {before mid behind : List Op}
     → Along n line pos at count before mid → Reaches n line at end mid behind
-    → drop next line ≡ past space (drop end line) → (head_kind (drop next line) ≡ Comma → ⊥) → pos ≤ at → y.end ≡ end
-    → y.count ≡ count + 1 → ManyReach n line pos y before behind
-the_last next {n} {line} {pos} {at} {end} {count} {y} {before} {mid} {behind} g t s k l p q =
+    → drop next line ≡ past space (drop end line) → (head_kind (drop next line) ≡ Comma → ⊥) → pos ≤ at → end ≤ next
+    → next ≤ length line → ManyReach n line pos (record { end = next; count = count + 1 }) before behind
+the_last next {n} {line} {pos} {at} {end} {count} {before} {mid} {behind} g t s k l p w =
     let c = g.counted in
     let f = t.forward in
-    let w = t.within in
+    let twice : past space (drop next line) ≡ drop next line
+    = ap (past space) s ∙ past_twice space (drop end line) ∙ sym s in
     record {
       terms = g.terms;
       last = t.term;
       on = λ m h us d. g.on m h us d ∙ t.on m (among h (join us g.terms)) (g.admits h us d)
-          ∙ ap (λ e. onward sentences m (Some (after t.term n (among h (join us g.terms)))) (drop e line))
-          (sym p);
+          ∙ past_spaces m n t.term h (join us g.terms) line end next s;
       builds = t.builds ∙ ap (λ st. t.term ∷ st) g.builds
           ∙ sym (pushed_join g.terms (cons t.term nil) (run line before));
       counted = omega arith;
-      no_comma = λ e. k (ap head_kind (s ∙ ap (λ e. past space (drop e line)) (sym p)) ∙ e);
-      even = g.even ∙ t.even ∙ ap (λ e. quote_open line e) (sym p);
+      no_comma = λ e. k (ap head_kind (sym twice) ∙ e);
+      no_space = twice;
+      even = g.even ∙ t.even ∙ even_past_spaces line end next s;
       forward = omega arith;
-      within = omega arith;
+      within = w;
     }
 
 pub none_more : {n : ℕ} {line : List ℕ} {pos at count : ℕ} {f : TermFault} {before mid : List Op}

@@ -20,14 +20,14 @@ use Rattle.grammar.specs.Places.{taken_or, operand_by}
 use Rattle.reader.specs.declared.op.Op.{Op}
 use Rattle.reader.specs.declared.fault.TermFault.{TermFault}
 use Rattle.reader.specs.declared.fault.TermFault.TheVariants as term_fault
-use Rattle.reader.specs.declared.term.Many.{Many}
+use Rattle.reader.specs.Reading.{Many}
 use Rattle.reader.specs.Ops.{Stack, apply, run, pushed, take_many, named as named_of}
 use Rattle.reader.specs.Reading.{Admits, is_bare, quote_open, Reaches, Breaks, Faulted, TermRead}
-use Rattle.reader.specs.Reading.{ArgumentsReach, ArgumentsBreak, Fitted}
+use Rattle.reader.specs.Reading.{ArgumentsReach, ArgumentsBreak}
 use Rattle.reader.proofs.OpsProperties.{run_one_more, taken_of_pushed}
 use Rattle.reader.proofs.BlameProperties.{fault_is_there, blamed_from_before, blamed_earlier, ends_there}
 use Rattle.reader.proofs.ByteSteps.{operand_past_spaces, admits_past_spaces, even_past_spaces}
-use Rattle.reader.proofs.TokenKinds.{mark_kind, begins_as, right_no_stray, found_no_stray}
+use Rattle.reader.proofs.TokenKinds.{mark_kind, begins_as, found_no_stray}
 use Rattle.grammar.proofs.StepProperties.{any_count}
 use Rattle.grammar.proofs.PlaceProperties.{operand_on}
 use Rattle.grammar.proofs.QuoteParity.{scan_even, scan_endless_open, spaces_even, endless_any_edge}
@@ -40,6 +40,22 @@ pub record At (line : List ℕ) (pos : ℕ) (k : Code) (a e : ℕ) : Type 0 wher
   pub within : e ≤ length line
   pub starts : drop a line ≡ from line pos
   pub later : pos ≤ a
+
+-- no token ends before it begins
+pub token_length : (k : Code) (a e n : ℕ) → Length k a e n → a ≤ e
+token_length (code.Name s) a e n h = omega arith
+token_length (code.Quoted s) a e n h = omega arith
+token_length (code.Variable s) a e n h = omega arith
+token_length (code.Integer s) a e n h = omega arith
+token_length code.Neck a e n h = omega arith
+token_length code.Opening a e n h = omega arith
+token_length code.Closing a e n h = omega arith
+token_length code.Left a e n h = omega arith
+token_length code.Right a e n h = omega arith
+token_length code.Bar a e n h = omega arith
+token_length code.Comma a e n h = omega arith
+token_length code.Stop a e n h = omega arith
+token_length code.End a e n h = let i = h.0 in let j = h.1 in omega arith
 
 pub at_token : (line : List ℕ) (pos : ℕ) (f : Found) (k : Code) → TokenRead line pos (Ok f) → pos ≤ length line
     → f.token ≡ k → At line pos k f.start f.end
@@ -132,10 +148,10 @@ operand_later : (m n : ℕ) (x : Context) (line : List ℕ) (pos a : ℕ) → dr
 operand_later m n x line pos a s = operand_past_spaces m n x (drop pos line)
     ∙ ap (λ r. onward sentences m (Some (operand n x)) r) (sym s)
 
-pub read_later : (n : ℕ) (line : List ℕ) (pos : ℕ) (k : Code) (a e : ℕ) (before behind : List Op)
-    (r : Result ℕ TermFault)
-    → At line pos k a e → TermRead n line a before behind r → TermRead n line pos before behind r
-read_later n line pos k a e before behind (Ok z) g h =
+pub read_later : (n : ℕ) (line : List ℕ) (pos : ℕ) (k : Code) (a e z : ℕ) (before behind : List Op)
+    (r : Result (Unit {0}) TermFault)
+    → At line pos k a e → TermRead n line a z before behind r → TermRead n line pos z before behind r
+read_later n line pos k a e z before behind (Ok x) g h =
     let v = g.later in
     let w = h.forward in
     record {
@@ -146,16 +162,12 @@ read_later n line pos k a e before behind (Ok z) g h =
       forward = omega arith;
       within = h.within;
     }
-read_later n line pos k a e before behind (Err f) g h = record {
+read_later n line pos k a e z before behind (Err f) g h = record {
   left = h.left;
   on = λ m x d. operand_later m n x line pos a g.starts ∙ h.on m x (admits_later line pos a x g.starts d);
   blamed = blamed_earlier line pos a f h.left h.blamed (even_before line pos k a e g);
   within = h.within;
 }
-
-pub fitted_later : (r : Result ℕ TermFault) (pos a c b : ℕ) → pos ≤ a → Fitted 0 r a c b → Fitted 0 r pos c b
-fitted_later (Ok e) pos a c b l h = omega arith
-fitted_later (Err f) pos a c b l h = tt
 
 -- a fault at the place p, by what stands there
 pub breaks_there : (n : ℕ) (line : List ℕ) (pos p : ℕ) (f : TermFault) → Faulted line p f n
@@ -185,7 +197,7 @@ found_misplaced line p n t r e = (
   refl,
   refl,
   (λ h. let y = sym (endless_any_edge joined spaced (drop p line) h)
-      ∙ e in let z : ◌≡◌ {A = ℕ} 0 1 = cc in omega arith),
+      ∙ e in cc),
   λ l h. found_no_stray line p t r e l h,
 )
 
@@ -207,7 +219,7 @@ no_empty n (among (body w) nil) h = refl
 no_empty n (among goals nil) h = refl
 no_empty n (among (arguments b x) nil) h = refl
 no_empty n (among (round x) nil) h = refl
-no_empty n (among (square x) nil) h = let z : ◌≡◌ {A = ℕ} 0 1 = cc in absurd (omega arith)
+no_empty n (among (square x) nil) h = cc
 no_empty n (among w (cons u us)) h = refl
 no_empty n (tail us x) h = refl
 
@@ -215,7 +227,7 @@ pub right_breaks : {n : ℕ} {line : List ℕ} {pos a e : ℕ} → At line pos c
     → Breaks n line pos (term_fault.Unexpected a n)
 right_breaks {n} {line} {pos} {a} {e} g =
     let k : head_kind (past space (drop pos line)) ≡ Right = ap head_kind (sym g.starts)
-    ∙ begins_as (drop a line) Right (ap mark_kind g.is) right_no_stray in
+    ∙ begins_as (drop a line) Right (ap mark_kind g.is) (λ e. cc) in
     mark_breaks n line pos code.Right a e _ g refl g.long
     (λ x d. ap (λ o. taken_or n o (drop a line) (drop e line)) (no_empty n x (d k)))
 

@@ -1,3 +1,4 @@
+pub mod PartsProperties
 pub mod OpsProperties
 pub mod BlameProperties
 pub mod ByteSteps
@@ -6,6 +7,7 @@ pub mod FoundTokens
 pub mod BracketSteps
 pub mod ListSteps
 pub mod CommaSteps
+pub mod CursorSteps
 pub mod LineFaults
 pub mod NeckSteps
 pub mod LineSteps

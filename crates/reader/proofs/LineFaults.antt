@@ -42,7 +42,7 @@ stopped_at_end g line p n e f o = record {
   counted = ap (λ l. n + open_brackets l) (ap (λ q. take q line) e ∙ take-length line) ∙ o;
   at_stray = λ l k. absurd (omega arith);
   at_space = λ z k. let y = sym (head_past_the_end line 0 (omega arith))
-      ∙ k in let i : ◌≡◌ {A = ℕ} 0 1 = cc in absurd (omega arith);
+      ∙ k in cc;
   elsewhere = λ a b r. no_row_at_end line (subst (λ q. NoRow line (suc q)) e r);
 }
 

@@ -1,6 +1,6 @@
 -- From the parts of a line to the whole: goals and the final stop, a fact, a rule, a query.
 use Rattle.std.proofs.Common.{◌≡◌, ℕ, ◌+◌, ◌-◌, ◌<◌, ◌≤◌, List, [], ◌∷◌, ◌++◌, length, get_or, drop, replicate, Some}
-use Rattle.std.proofs.Common.{None, Option, sym, refl, ap, ◌∙◌, arith}
+use Rattle.std.proofs.Common.{None, Option, Ok, Err, Result, sym, refl, ap, ◌∙◌, arith}
 use Rattle.tokens.specs.declared.kind.Kind.{Kind}
 use Rattle.tokens.specs.declared.kind.Kind.TheVariants.{Small, Capital, Digit, Symbol, Solo, Quote, Opening, Closing}
 use Rattle.tokens.specs.declared.kind.Kind.TheVariants.{Left, Right, Bar, Comma, Stop, Space, Stray}
@@ -19,22 +19,17 @@ use Rattle.grammar.proofs.ReadingProperties.{read_is_text}
 use Rattle.reader.specs.declared.op.Op.{Op}
 use Rattle.reader.specs.declared.op.Op.TheVariants as op
 use Rattle.reader.specs.declared.fault.TermFault.{TermFault}
-use Rattle.reader.specs.declared.term.Many.{Many}
+use Rattle.reader.specs.Reading.{Many}
 use Rattle.reader.specs.Faults.{line_of}
 use Rattle.reader.specs.Ops.{run}
 use Rattle.reader.specs.Reading.{Admits, quote_open, Reaches, Breaks, Faulted, ManyReach, ManyBreak}
 use Rattle.reader.specs.Sentence.{IsFact, IsRule, IsQuery, LineFails}
-use Rattle.reader.specs.Parts.{NeckReaches, NeckBreaks, holder_of, whole_of, GoalsReach, GoalsBreak}
+use Rattle.reader.specs.Parts.{NeckReaches, NeckBreaks, holder_of, whole_of, GoalsReach, GoalsBreak, GoalsRead}
+use Rattle.reader.specs.Parts.{QueryJudged}
 use Rattle.reader.proofs.BlameProperties.{fault_is_there, blamed_from_before, blamed_earlier}
 use Rattle.reader.proofs.ByteSteps.{tail_is_next, after_at, even_past_spaces, even_past_byte}
 use Rattle.reader.proofs.BracketSteps.{closed_on, other_kind, unclosed_on, conj_built}
 use Rattle.reader.proofs.LineFaults.{line_fails}
-
-stop_no_quote : Stop ≡ Quote → ⊥
-stop_no_quote e = let z : ◌≡◌ {A = ℕ} 0 1 = cc in omega arith
-
-stop_no_symbol : {A : Type 0} → Stop ≡ Symbol → A
-stop_no_symbol e = let z : ◌≡◌ {A = ℕ} 0 1 = cc in absurd (omega arith)
 
 -- behind the final stop
 more_on : (m : ℕ) (d : Sentence) (line : List ℕ) (e : ℕ) → e < length line
@@ -99,7 +94,7 @@ pub goals_go_on : (stop : ℕ) (f : TermFault) {line : List ℕ} {pos : ℕ} {y 
     → Faulted line (stop + 1) f brackets → GoalsBreak line pos f
 goals_go_on stop f {line} {pos} {y} {before} {mid} g s k l b =
     goals_fault line pos (stop + 1) f b (g.even ∙ even_past_spaces line y.end stop s
-    ∙ even_past_byte line stop Stop k stop_no_quote) (omega arith)
+    ∙ even_past_byte line stop Stop k (λ e. cc)) (omega arith)
     (λ m o. stop_on m o line pos y before mid stop g s k
     ∙ more_on m (whole_of o (conj (with_last g.terms g.last))) line (stop + 1) l)
 
@@ -139,6 +134,11 @@ pub query_fails : (line : List ℕ) (f : TermFault) → (head_kind line ≡ Spac
 query_fails line f h g = line_fails a_query line f g.left h (first_on a_query 0 line h ∙ g.on 0 None) g.blamed
     g.within
 
+pub query_judged : (line : List ℕ) {ops : List Op} (behind : List Op) (r : Result (Unit {0}) TermFault) → ops ≡ []
+    → (head_kind line ≡ Space → ⊥) → GoalsRead line 0 ops behind r → QueryJudged line behind r
+query_judged line behind (Ok x) z h g = query_read z h g
+query_judged line behind (Err f) z h g = query_fails line f h g
+
 -- a head
 pub head_fails : (line : List ℕ) (f : TermFault) → (head_kind line ≡ Space → ⊥) → Breaks brackets line 0 f
     → LineFails a_rule line (line_of f)
@@ -156,7 +156,7 @@ fact_on : (line : List ℕ) (e next : ℕ) (before mid : List Op) (g : Reaches b
     → judged a_rule line ≡ onward sentences 0 (Some (done (fact g.term))) (drop (next + 1) line)
 fact_on line e next before mid g h s k =
     head_on line e before mid g h
-    ∙ after_at 0 brackets g.term head line e next Stop s k stop_no_symbol
+    ∙ after_at 0 brackets g.term head line e next Stop s k (λ e. cc)
     ∙ any_count brackets 0 (done (fact g.term)) (tail_of (drop next line))
     ∙ ap (λ r. onward sentences 0 (Some (done (fact g.term))) r) (tail_is_next line next)
 
@@ -185,7 +185,7 @@ pub fact_goes_on : (next : ℕ) (f : TermFault) {line : List ℕ} {e : ℕ} {bef
     → Faulted line (next + 1) f brackets → LineFails a_rule line (line_of f)
 fact_goes_on next f {line} {e} {before} {mid} g h s k l b =
     rule_fault line (next + 1) f h b (g.even ∙ even_past_spaces line e next s
-    ∙ even_past_byte line next Stop k stop_no_quote) (omega arith)
+    ∙ even_past_byte line next Stop k (λ e. cc)) (omega arith)
     (fact_on line e next before mid g h s k ∙ more_on 0 (fact g.term) line (next + 1) l)
 
 -- any other byte behind a head

@@ -16,10 +16,10 @@ use Rattle.reader.specs.declared.op.Op.{Op}
 use Rattle.reader.specs.declared.op.Op.TheVariants as op
 use Rattle.reader.specs.declared.fault.TermFault.{TermFault}
 use Rattle.reader.specs.declared.fault.TermFault.TheVariants as term_fault
-use Rattle.reader.specs.declared.term.Many.{Many}
+use Rattle.reader.specs.Reading.{Many}
 use Rattle.reader.specs.Ops.{Stack, run, run_from, pushed}
 use Rattle.reader.specs.Reading.{Admits, quote_open, Reaches, Breaks, TermRead, Faulted, ManyReach, ManyBreak}
-use Rattle.reader.specs.Reading.{ElementsReach, ElementsBreak, ElementsRead, Fitted}
+use Rattle.reader.specs.Reading.{ElementsReach, ElementsBreak, ElementsRead}
 use Rattle.reader.proofs.OpsProperties.{run_append, run_one_more, again, run_cells, list_of_pushed, size_with_last}
 use Rattle.reader.proofs.BlameProperties.{fault_is_there, blamed_from_before, blamed_earlier, misplaced}
 use Rattle.reader.proofs.ByteSteps.{tail_is_next, operand_past_spaces, after_at, even_past_spaces, even_past_byte}
@@ -27,34 +27,16 @@ use Rattle.reader.proofs.FoundTokens.{breaks_there}
 use Rattle.reader.proofs.BracketSteps.{mark_on, enters, none_left, closed_on, other_kind, unclosed_on}
 use Rattle.grammar.proofs.StepProperties.{any_count}
 
-left_no_quote : Left ≡ Quote → ⊥
-left_no_quote e = let z : ◌≡◌ {A = ℕ} 0 1 = cc in omega arith
-
-left_no_space : Left ≡ Space → ⊥
-left_no_space e = let z : ◌≡◌ {A = ℕ} 0 1 = cc in omega arith
-
-left_no_stray : Left ≡ Stray → ⊥
-left_no_stray e = let z : ◌≡◌ {A = ℕ} 0 1 = cc in omega arith
-
-right_no_quote : Right ≡ Quote → ⊥
-right_no_quote e = let z : ◌≡◌ {A = ℕ} 0 1 = cc in omega arith
-
-right_no_space : Right ≡ Space → ⊥
-right_no_space e = let z : ◌≡◌ {A = ℕ} 0 1 = cc in omega arith
-
-bar_no_quote : Bar ≡ Quote → ⊥
-bar_no_quote e = let z : ◌≡◌ {A = ℕ} 0 1 = cc in omega arith
-
 -- a square bracket where a term must begin
 square_on : (m n : ℕ) (x : Context) (line : List ℕ) (a : ℕ) → a < length line → head_kind (drop a line) ≡ Left
     → onward sentences m (Some (operand n x)) (drop a line)
     ≡ taken_or n (bracket n (square x)) (drop a line) (drop (a + 1) line)
-square_on m n x line a l h = mark_on m n x line a Left left l h left_no_space (λ c. refl)
+square_on m n x line a l h = mark_on m n x line a Left left l h (λ e. cc) (λ c. refl)
 
 pub list_too_deep : {n : ℕ} {line : List ℕ} {a : ℕ} → a < length line → head_kind (drop a line) ≡ Left → n ≡ 0
     → Breaks n line a (term_fault.Unexpected a n)
 list_too_deep {n} {line} {a} l h e =
-    breaks_there n line a a (term_fault.Unexpected a n) (misplaced line a n Left h left_no_quote left_no_stray) refl
+    breaks_there n line a a (term_fault.Unexpected a n) (misplaced line a n Left h (λ e. cc) (λ e. cc)) refl
     (omega arith)
     (λ m x d. square_on m n x line a l h ∙ none_left n (square x) (drop a line) (drop (a + 1) line) e)
 
@@ -70,20 +52,20 @@ empty_reaches {n} {line} {a} {before} {behind} {first} l h z s v k u b =
       on = λ m x d. square_on m n x line a l h ∙ enters m n (square x) (drop a line) (drop (a + 1) line) z
           ∙ operand_past_spaces m (n - 1) (among (square x) nil) (drop (a + 1) line)
           ∙ ap (λ r. onward sentences m (Some (operand (n - 1) (among (square x) nil))) r) (sym s)
-          ∙ mark_on m (n - 1) (among (square x) nil) line first Right right u (sym k) right_no_space (λ c. refl)
+          ∙ mark_on m (n - 1) (among (square x) nil) line first Right right u (sym k) (λ e. cc) (λ c. refl)
           ∙ any_count (n - 1) m (after empty_list (suc (n - 1)) x) (drop (first + 1) line)
           ∙ ap (λ j. onward sentences m (Some (after empty_list j x)) (drop (first + 1) line)) e;
       builds = ap (run line) b ∙ run_one_more line before op.EmptyList;
-      even = even_past_byte line a Left (sym h) left_no_quote ∙ even_past_spaces line (a + 1) first s
-          ∙ even_past_byte line first Right k right_no_quote;
+      even = even_past_byte line a Left (sym h) (λ e. cc) ∙ even_past_spaces line (a + 1) first s
+          ∙ even_past_byte line first Right k (λ e. cc);
       forward = omega arith;
       within = omega arith;
     }
 
-pub list_read : (n : ℕ) (line : List ℕ) (a : ℕ) (before behind : List Op) (r : Result ℕ TermFault) → a < length line
-    → head_kind (drop a line) ≡ Left → 0 < n
-    → ElementsRead (n - 1) line (a + 1) before behind r → TermRead n line a before behind r
-list_read n line a before behind (Ok z) l h p g =
+pub list_read : (n : ℕ) (line : List ℕ) (a z : ℕ) (before behind : List Op) (r : Result (Unit {0}) TermFault)
+    → a < length line → head_kind (drop a line) ≡ Left → 0 < n
+    → ElementsRead (n - 1) line (a + 1) z before behind r → TermRead n line a z before behind r
+list_read n line a z before behind (Ok x) l h p g =
     let e : suc (n - 1) ≡ n = omega arith in
     let f = g.forward in
     record {
@@ -91,20 +73,16 @@ list_read n line a before behind (Ok z) l h p g =
       on = λ m x d. square_on m n x line a l h ∙ enters m n (square x) (drop a line) (drop (a + 1) line) p ∙ g.on m x
           ∙ ap (λ j. onward sentences m (Some (after g.term j x)) (drop z line)) e;
       builds = g.builds;
-      even = even_past_byte line a Left (sym h) left_no_quote ∙ g.even;
+      even = even_past_byte line a Left (sym h) (λ e. cc) ∙ g.even;
       forward = omega arith;
       within = g.within;
     }
-list_read n line a before behind (Err f) l h p g = record {
+list_read n line a z before behind (Err f) l h p g = record {
   left = g.left;
   on = λ m x d. square_on m n x line a l h ∙ enters m n (square x) (drop a line) (drop (a + 1) line) p ∙ g.on m x;
-  blamed = blamed_earlier line a (a + 1) f g.left g.blamed (even_past_byte line a Left (sym h) left_no_quote);
+  blamed = blamed_earlier line a (a + 1) f g.left g.blamed (even_past_byte line a Left (sym h) (λ e. cc));
   within = g.within;
 }
-
-pub list_fitted : (r : Result ℕ TermFault) (a c b : ℕ) → Fitted 1 r (a + 1) c b → Fitted 0 r a c b
-list_fitted (Ok e) a c b h = omega arith
-list_fitted (Err f) a c b h = tt
 
 -- cells are built of the elements under the tail on top
 list_built : (line : List ℕ) (mid : List Op) (count : ℕ) (ts : Writtens) (t z : Written) (st : Stack)
@@ -149,7 +127,7 @@ elements_reach {n} {line} {pos} {y} {before} {mid} {more} {behind} {close} h g s
       builds = ap (run line) q
           ∙ list_built line more y.count g.terms g.last empty_list (run line before)
           (ap (run line) p ∙ run_one_more line mid op.EmptyList ∙ ap (λ st. empty_list ∷ st) g.builds) g.counted;
-      even = g.even ∙ even_past_spaces line y.end close s ∙ even_past_byte line close Right k right_no_quote;
+      even = g.even ∙ even_past_spaces line y.end close s ∙ even_past_byte line close Right k (λ e. cc);
       forward = omega arith;
       within = omega arith;
     }
@@ -186,7 +164,7 @@ bar_even : (n : ℕ) (line : List ℕ) (pos : ℕ) (y : Many) (before mid : List
     → ManyReach n line pos y before mid → drop close line ≡ past space (drop y.end line)
     → Bar ≡ head_kind (drop close line) → quote_open line pos ≡ quote_open line (close + 1)
 bar_even n line pos y before mid close g s k = g.even ∙ even_past_spaces line y.end close s
-    ∙ even_past_byte line close Bar k bar_no_quote
+    ∙ even_past_byte line close Bar k (λ e. cc)
 
 pub tail_breaks : (close : ℕ) {n : ℕ} {line : List ℕ} {pos : ℕ} {y : Many} {before mid : List Op} {f : TermFault}
     → (head_kind (past space (drop pos line)) ≡ Right → ⊥)
@@ -221,7 +199,7 @@ tail_reaches {n} {line} {pos} {y} {before} {mid} {more} {behind} {close} {e} {la
           ∙ list_built line more y.count g.terms g.last t.term (run line before)
           (t.builds ∙ ap (λ st. t.term ∷ st) g.builds) g.counted;
       even = bar_even n line pos y before mid close g s k ∙ t.even ∙ even_past_spaces line e last r
-          ∙ even_past_byte line last Right j right_no_quote;
+          ∙ even_past_byte line last Right j (λ e. cc);
       forward = omega arith;
       within = omega arith;
     }

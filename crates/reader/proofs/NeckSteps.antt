@@ -29,10 +29,8 @@ first_byte line p b h = byte_first b (drop p line) (sym h) ∙ ap (λ r. b ∷ r
 
 -- `:-`
 both_bytes : (line : List ℕ) (p : ℕ) → true ≡ first_is 58 (drop p line) → true ≡ first_is 45 (drop (p + 1) line)
-    → drop p line ≡ 58 ∷ 45 ∷ drop (p + 2) line
-both_bytes line p h k =
-    let e : p + 1 + 1 ≡ p + 2 = omega arith in
-    first_byte line p 58 h ∙ ap (λ r. 58 ∷ r) (first_byte line (p + 1) 45 k ∙ ap (λ q. 45 ∷ drop q line) e)
+    → drop p line ≡ 58 ∷ 45 ∷ drop (p + 1 + 1) line
+both_bytes line p h k = first_byte line p 58 h ∙ ap (λ r. 58 ∷ r) (first_byte line (p + 1) 45 k)
 
 breaks_at : (line : List ℕ) (p q : ℕ) (f : TermFault) → Faulted line q f brackets
     → quote_open line p ≡ quote_open line q → q ≤ length line
@@ -68,20 +66,20 @@ no_minus line p f l c h b =
 
 pub goes_on : (line : List ℕ) (p : ℕ) (f : TermFault) → p + 1 < length line → true ≡ first_is 58 (drop p line)
     → true ≡ first_is 45 (drop (p + 1) line)
-    → Symbol ≡ head_kind (drop (p + 2) line) → Faulted line (p + 2) f brackets → NeckBreaks line p f
+    → Symbol ≡ head_kind (drop (p + 1 + 1) line) → Faulted line (p + 1 + 1) f brackets → NeckBreaks line p f
 goes_on line p f l c h k b =
     let d = both_bytes line p c h in
-    breaks_at line p (p + 2) f b (ap (inside_quote false) d) (omega arith)
-    (λ m t s e. neck_too_long m brackets t s (drop (p + 2) line) (e ∙ d) (sym k))
+    breaks_at line p (p + 1 + 1) f b (ap (inside_quote false) d) (omega arith)
+    (λ m t s e. neck_too_long m brackets t s (drop (p + 1 + 1) line) (e ∙ d) (sym k))
 
 pub whole_neck : (line : List ℕ) (p : ℕ) → p + 1 < length line → true ≡ first_is 58 (drop p line)
     → true ≡ first_is 45 (drop (p + 1) line)
-    → (head_kind (drop (p + 2) line) ≡ Symbol → ⊥) → NeckReaches line p (p + 2)
+    → (head_kind (drop (p + 1 + 1) line) ≡ Symbol → ⊥) → NeckReaches line p (p + 1 + 1)
 whole_neck line p l c h k =
     let d = both_bytes line p c h in
     record {
-      on = λ m t s e. neck_on m brackets t s (drop (p + 2) line) (e ∙ d) k
-          ∙ any_count brackets m (operand brackets (among (body t) nil)) (drop (p + 2) line);
+      on = λ m t s e. neck_on m brackets t s (drop (p + 1 + 1) line) (e ∙ d) k
+          ∙ any_count brackets m (operand brackets (among (body t) nil)) (drop (p + 1 + 1) line);
       even = ap (inside_quote false) d;
       forward = omega arith;
       within = omega arith;

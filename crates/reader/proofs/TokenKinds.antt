@@ -1,6 +1,6 @@
 -- The byte that a token begins with: a bracket that opens, or the right one of a list.
 use Rattle.std.proofs.Common.{◌≡◌, ℕ, ◌<◌, true, false, cond, ◌&&◌, List, [], ◌∷◌, ◌++◌, length, drop, Some, None, sym}
-use Rattle.std.proofs.Common.{refl, ap, ◌∙◌, arith}
+use Rattle.std.proofs.Common.{refl, ap, ◌∙◌}
 use Rattle.tokens.specs.declared.kind.Kind.{Kind}
 use Rattle.tokens.specs.declared.kind.Kind.TheVariants.{Small, Capital, Digit, Symbol, Solo, Quote, Opening, Closing}
 use Rattle.tokens.specs.declared.kind.Kind.TheVariants.{Left, Right, Bar, Comma, Stop, Space, Stray}
@@ -77,35 +77,24 @@ begins_as (c ∷ s) k e h = go (class c) e
     go Space g = absurd (h (sym g))
     go Stray g = absurd (h (sym g))
 
-pub opening_no_stray : Opening ≡ Stray → ⊥
-opening_no_stray e = let z : ◌≡◌ {A = ℕ} 0 1 = cc in omega arith
-
-pub left_no_stray : Left ≡ Stray → ⊥
-left_no_stray e = let z : ◌≡◌ {A = ℕ} 0 1 = cc in omega arith
-
-pub right_no_stray : Right ≡ Stray → ⊥
-right_no_stray e = let z : ◌≡◌ {A = ℕ} 0 1 = cc in omega arith
-
 -- where a token was found, no quoted name is left open
 pub found_not_endless : (k : Code) (r : List ℕ) → scan_of k r ≡ endless → ⊥
-found_not_endless (code.Name s) r e = let z : ◌≡◌ {A = ℕ} 0 1 = cc in omega arith
-found_not_endless (code.Quoted s) r e = let z : ◌≡◌ {A = ℕ} 0 1 = cc in omega arith
-found_not_endless (code.Variable s) r e = let z : ◌≡◌ {A = ℕ} 0 1 = cc in omega arith
-found_not_endless (code.Integer s) r e = let z : ◌≡◌ {A = ℕ} 0 1 = cc in omega arith
-found_not_endless code.Neck r e = let z : ◌≡◌ {A = ℕ} 0 1 = cc in omega arith
-found_not_endless code.Opening r e = let z : ◌≡◌ {A = ℕ} 0 1 = cc in omega arith
-found_not_endless code.Closing r e = let z : ◌≡◌ {A = ℕ} 0 1 = cc in omega arith
-found_not_endless code.Left r e = let z : ◌≡◌ {A = ℕ} 0 1 = cc in omega arith
-found_not_endless code.Right r e = let z : ◌≡◌ {A = ℕ} 0 1 = cc in omega arith
-found_not_endless code.Bar r e = let z : ◌≡◌ {A = ℕ} 0 1 = cc in omega arith
-found_not_endless code.Comma r e = let z : ◌≡◌ {A = ℕ} 0 1 = cc in omega arith
-found_not_endless code.Stop r e = let z : ◌≡◌ {A = ℕ} 0 1 = cc in omega arith
-found_not_endless code.End r e = let z : ◌≡◌ {A = ℕ} 0 1 = cc in omega arith
+found_not_endless (code.Name s) r e = cc
+found_not_endless (code.Quoted s) r e = cc
+found_not_endless (code.Variable s) r e = cc
+found_not_endless (code.Integer s) r e = cc
+found_not_endless code.Neck r e = cc
+found_not_endless code.Opening r e = cc
+found_not_endless code.Closing r e = cc
+found_not_endless code.Left r e = cc
+found_not_endless code.Right r e = cc
+found_not_endless code.Bar r e = cc
+found_not_endless code.Comma r e = cc
+found_not_endless code.Stop r e = cc
+found_not_endless code.End r e = cc
 
 -- where a token was found, the byte is no stray one
 pub found_no_stray : (line : List ℕ) (p : ℕ) (t : Token) (r : List ℕ) → scan spaced (drop p line) ≡ got t r
     → p < length line → head_kind (drop p line) ≡ Stray → ⊥
 found_no_stray line p t r e l h =
-    let y = sym (scan_by_kind line p spaced Stray l h) ∙ e in
-    let z : ◌≡◌ {A = ℕ} 0 1 = cc in
-    omega arith
+    let y = sym (scan_by_kind line p spaced Stray l h) ∙ e in cc

@@ -4,3 +4,4 @@ pub mod Reading
 pub mod Along
 pub mod Sentence
 pub mod Parts
+pub mod Cursors

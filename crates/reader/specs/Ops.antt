@@ -36,10 +36,10 @@ joined f (b ∷ []) = b ∷ []
 joined f (b ∷ a ∷ st) = pair f a b ∷ st
 
 abbrev pub apply : List ℕ → Op → Stack → Stack
-apply line (op.Variable a b) st = var (part line a b) ∷ st
-apply line (op.Integer a b) st = int (part line a b) ∷ st
-apply line (op.Name a b n) st = named (part line a b) (take_many n st)
-apply line (op.Quoted a b n) st = named (undouble false (part line a b)) (take_many n st)
+apply line (op.Variable s) st = var (part line s.start s.end) ∷ st
+apply line (op.Integer s) st = int (part line s.start s.end) ∷ st
+apply line (op.Name s n) st = named (part line s.start s.end) (take_many n st)
+apply line (op.Quoted s n) st = named (undouble false (part line s.start s.end)) (take_many n st)
 apply line op.EmptyList st = empty_list ∷ st
 apply line op.ListCell st = joined dot_name st
 apply line op.Conjunction st = joined comma_name st

@@ -1,18 +1,27 @@
 -- What the functions for the parts of a line answer: the neck, the final stop, and the goals before it.
 use Rattle.std.specs.Prelude.{◌≡◌, ℕ, ◌<◌, ◌≤◌, List, [], ◌∷◌, length, drop, Some, None, Ok, Err, Option, Result}
+use Rattle.tokens.specs.declared.kind.Kind.TheVariants.{Space}
+use Rattle.tokens.specs.declared.scan.TokenFault.TheVariants as token_fault
 use Rattle.tokens.specs.Bytes.{past, space}
+use Rattle.tokens.specs.Scanning.{head_kind}
 use Rattle.grammar.specs.Written.{Written, nil, Sentence, rule, query}
-use Rattle.grammar.specs.Grammar.{a_rule, brackets}
+use Rattle.grammar.specs.Grammar.{a_rule, a_query, brackets}
 use Rattle.grammar.specs.Machine.{onward, good, bad}
 use Rattle.grammar.specs.Sentences.{Holder, head, among, body, goals, operand, after, sentences}
 use Rattle.reader.specs.declared.op.Op.{Op}
 use Rattle.reader.specs.declared.fault.TermFault.{TermFault}
+use Rattle.reader.specs.declared.fault.TermFault.TheVariants as term_fault
 use Rattle.reader.specs.declared.sentence.Shape.{Shape}
 use Rattle.reader.specs.declared.sentence.Shape.TheVariants as shape
 use Rattle.reader.specs.Faults.{term_place, line_of}
 use Rattle.reader.specs.Ops.{run}
 use Rattle.reader.specs.Reading.{quote_open, Blamed, Faulted}
-use Rattle.reader.specs.Sentence.{IsFact, IsRule, LineFails}
+use Rattle.reader.specs.Sentence.{IsFact, IsRule, IsQuery, LineFails}
+
+-- no space stands first
+abbrev pub FirstRead : List ℕ → ℕ → Result (Unit {0}) TermFault → Type 0
+FirstRead line pos (Ok x) = head_kind (drop pos line) ≡ Space → ⊥
+FirstRead line pos (Err f) = (head_kind (drop pos line) ≡ Space) × (f ≡ term_fault.Token (token_fault.Stray pos))
 
 -- a neck leads from start to e, behind any head
 pub record NeckReaches (line : List ℕ) (start e : ℕ) : Type 0 where
@@ -29,9 +38,10 @@ pub record NeckBreaks (line : List ℕ) (start : ℕ) (f : TermFault) : Type 0 w
   pub blamed : Blamed line start f brackets
   pub within : term_place f ≤ length line
 
-abbrev pub NeckRead : List ℕ → ℕ → Result ℕ TermFault → Type 0
-NeckRead line start (Ok e) = NeckReaches line start e
-NeckRead line start (Err f) = NeckBreaks line start f
+-- the place that is reached is e
+abbrev pub NeckRead : List ℕ → ℕ → ℕ → Result (Unit {0}) TermFault → Type 0
+NeckRead line start e (Ok x) = NeckReaches line start e
+NeckRead line start e (Err f) = NeckBreaks line start f
 
 -- nothing stands behind the final stop
 abbrev pub EndRead : List ℕ → ℕ → Result (Unit {0}) TermFault → Type 0
@@ -66,8 +76,13 @@ abbrev pub GoalsRead : List ℕ → ℕ → List Op → List Op → Result (Unit
 GoalsRead line pos before behind (Ok x) = GoalsReach line pos before behind
 GoalsRead line pos before behind (Err f) = GoalsBreak line pos f
 
--- a line that does not begin with a space, as a rule
+-- a line as a rule
 abbrev pub RuleJudged : List ℕ → List Op → Result Shape TermFault → Type 0
 RuleJudged line ops (Ok shape.Fact) = IsFact line ops
 RuleJudged line ops (Ok shape.Rule) = IsRule line ops
 RuleJudged line ops (Err f) = LineFails a_rule line (line_of f)
+
+-- and as a query
+abbrev pub QueryJudged : List ℕ → List Op → Result (Unit {0}) TermFault → Type 0
+QueryJudged line ops (Ok x) = IsQuery line ops
+QueryJudged line ops (Err f) = LineFails a_query line (line_of f)

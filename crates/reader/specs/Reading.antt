@@ -1,6 +1,6 @@
 -- What the functions of the reader answer, by the grammar's reader of bytes:
 -- how it goes on behind what they read, whatever is open around it.
-use Rattle.std.specs.Prelude.{◌≡◌, ℕ, suc, ◌+◌, ◌<◌, ◌≤◌, Bool, true, false, ◌⊎◌, List, ◌∷◌, length, drop, Some, Ok}
+use Rattle.std.specs.Prelude.{◌≡◌, ℕ, suc, ◌<◌, ◌≤◌, Bool, true, false, ◌⊎◌, List, ◌∷◌, length, drop, Some, Ok}
 use Rattle.std.specs.Prelude.{Err, Result, ◌≢◌}
 use Rattle.tokens.specs.declared.kind.Kind.TheVariants.{Right, Comma, Stray}
 use Rattle.tokens.specs.declared.scan.TokenFault.TheVariants as token_fault
@@ -15,7 +15,6 @@ use Rattle.grammar.specs.Faults.{inside_quote}
 use Rattle.reader.specs.declared.op.Op.{Op}
 use Rattle.reader.specs.declared.fault.TermFault.{TermFault}
 use Rattle.reader.specs.declared.fault.TermFault.TheVariants as term_fault
-use Rattle.reader.specs.declared.term.Many.{Many}
 use Rattle.reader.specs.Faults.{term_place}
 use Rattle.reader.specs.Ops.{run, pushed}
 
@@ -78,9 +77,15 @@ Faulted line p (term_fault.Unexpected q k) n =
     (q ≡ p) × (k ≡ n) × (scan joined (drop p line) ≢ endless) × (p < length line → head_kind (drop p line) ≡ Stray
     → ⊥)
 
-abbrev pub TermRead : ℕ → List ℕ → ℕ → List Op → List Op → Result ℕ TermFault → Type 0
-TermRead n line pos before behind (Ok e) = Reaches n line pos e before behind
-TermRead n line pos before behind (Err f) = Breaks n line pos f
+-- the place that is reached is e
+abbrev pub TermRead : ℕ → List ℕ → ℕ → ℕ → List Op → List Op → Result (Unit {0}) TermFault → Type 0
+TermRead n line pos e before behind (Ok x) = Reaches n line pos e before behind
+TermRead n line pos e before behind (Err f) = Breaks n line pos f
+
+-- where terms end that stand one behind another, and how many they are
+pub record Many : Type 0 where
+  pub end : ℕ
+  pub count : ℕ
 
 -- one or more terms with commas between: all but the last, and the last
 pub record ManyReach (n : ℕ) (line : List ℕ) (pos : ℕ) (y : Many) (before behind : List Op) : Type 0 where
@@ -92,6 +97,7 @@ pub record ManyReach (n : ℕ) (line : List ℕ) (pos : ℕ) (y : Many) (before 
   pub builds : run line behind ≡ pushed (with_last terms last) (run line before)
   pub counted : y.count ≡ suc (size terms)
   pub no_comma : head_kind (past space (drop y.end line)) ≡ Comma → ⊥
+  pub no_space : past space (drop y.end line) ≡ drop y.end line
   pub even : quote_open line pos ≡ quote_open line y.end
   pub forward : pos < y.end
   pub within : y.end ≤ length line
@@ -103,9 +109,9 @@ pub record ManyBreak (n : ℕ) (line : List ℕ) (pos : ℕ) (f : TermFault) : T
   pub blamed : Blamed line pos f left
   pub within : term_place f ≤ length line
 
-abbrev pub TermsRead : ℕ → List ℕ → ℕ → List Op → List Op → Result Many TermFault → Type 0
-TermsRead n line pos before behind (Ok y) = ManyReach n line pos y before behind
-TermsRead n line pos before behind (Err f) = ManyBreak n line pos f
+abbrev pub TermsRead : ℕ → List ℕ → ℕ → ℕ → List Op → List Op → Result ℕ TermFault → Type 0
+TermsRead n line pos e before behind (Ok k) = ManyReach n line pos (record { end = e; count = k }) before behind
+TermsRead n line pos e before behind (Err f) = ManyBreak n line pos f
 
 -- the arguments directly behind a name, or none
 pub record ArgumentsReach (n : ℕ) (line : List ℕ) (pos : ℕ) (y : Many) (before behind : List Op) : Type 0 where
@@ -126,9 +132,10 @@ pub record ArgumentsBreak (n : ℕ) (line : List ℕ) (pos : ℕ) (f : TermFault
   pub blamed : Blamed line pos f left
   pub within : term_place f ≤ length line
 
-abbrev pub ArgumentsRead : ℕ → List ℕ → ℕ → List Op → List Op → Result Many TermFault → Type 0
-ArgumentsRead n line pos before behind (Ok y) = ArgumentsReach n line pos y before behind
-ArgumentsRead n line pos before behind (Err f) = ArgumentsBreak n line pos f
+abbrev pub ArgumentsRead : ℕ → List ℕ → ℕ → ℕ → List Op → List Op → Result ℕ TermFault → Type 0
+ArgumentsRead n line pos e before behind (Ok k) =
+    ArgumentsReach n line pos (record { end = e; count = k }) before behind
+ArgumentsRead n line pos e before behind (Err f) = ArgumentsBreak n line pos f
 
 -- the elements of a list, its tail, and the closing bracket
 pub record ElementsReach (n : ℕ) (line : List ℕ) (pos e : ℕ) (before behind : List Op) : Type 0 where
@@ -149,16 +156,6 @@ pub record ElementsBreak (n : ℕ) (line : List ℕ) (pos : ℕ) (f : TermFault)
   pub blamed : Blamed line pos f left
   pub within : term_place f ≤ length line
 
-abbrev pub ElementsRead : ℕ → List ℕ → ℕ → List Op → List Op → Result ℕ TermFault → Type 0
-ElementsRead n line pos before behind (Ok e) = ElementsReach n line pos e before behind
-ElementsRead n line pos before behind (Err f) = ElementsBreak n line pos f
-
--- no more steps are added than bytes are read, but for this many
-abbrev pub Fitted : ℕ → Result ℕ TermFault → ℕ → ℕ → ℕ → Type 0
-Fitted k (Ok e) pos a b = b + pos ≤ a + e + k
-Fitted k (Err f) pos a b = Unit {0}
-
--- the same with one more step for each term
-abbrev pub FittedMany : ℕ → Result Many TermFault → ℕ → ℕ → ℕ → Type 0
-FittedMany k (Ok y) pos a b = b + y.count + pos ≤ a + y.end + k
-FittedMany k (Err f) pos a b = Unit {0}
+abbrev pub ElementsRead : ℕ → List ℕ → ℕ → ℕ → List Op → List Op → Result (Unit {0}) TermFault → Type 0
+ElementsRead n line pos e before behind (Ok x) = ElementsReach n line pos e before behind
+ElementsRead n line pos e before behind (Err f) = ElementsBreak n line pos f

@@ -2,25 +2,46 @@
 
 ghost use Rattle.std.specs.Prelude.{◌≡◌};
 ghost use Rattle.reader.specs.Faults.{line_of};
+ghost use Rattle.reader.specs.Reading.{Faulted};
 ghost use Rattle.reader.specs.declared.fault.TermFault.TheVariants.{Token as of_token};
 
-use tokens::scan::TokenFault;
+use std::error::Error;
+use std::fmt;
+use tokens::kind::Kind;
+use tokens::scan::{TokenFault, kind_at, next_token};
 
-// At most so many brackets may stand open at one place.
+/// At most so many brackets may stand open at one place.
 pub const BRACKETS: u8 = 64;
 
-// A fault of a token, or a byte that no term has there, with the number of brackets still allowed.
-#[derive(Clone, Copy)]
+/// A fault of a token, or a byte that no term has there, with the number of brackets still allowed.
+#[derive(Clone, Copy, Debug, PartialEq, Eq)]
 pub enum TermFault {
     Token(TokenFault),
     Unexpected { at: usize, left: u8 },
 }
 
-// A fault of a term, or a byte outside all brackets that no line has there.
-#[derive(Clone, Copy)]
+/// A fault of a term, or a byte outside all brackets that no line has there.
+#[derive(Clone, Copy, Debug, PartialEq, Eq)]
 pub enum LineFault {
     Term(TermFault),
     Unexpected(usize),
+}
+
+/// What is wrong at a place where no token that stands there may stand: the token itself, or that it stands there.
+pub fn unexpected(line: &[u8], at: usize, left: u8) -> TermFault
+    ensures { Faulted line.now at result left }
+{
+    if at >= line.len() {
+        return TermFault::Unexpected { at, left };
+    }
+    match kind_at(line, at) {
+        Kind::Stray => TermFault::Token(TokenFault::Stray(at)),
+        Kind::Quote => match next_token(line, at) {
+            Ok(_) => TermFault::Unexpected { at, left },
+            Err(_) => TermFault::Token(TokenFault::Unclosed(at)),
+        },
+        _ => TermFault::Unexpected { at, left },
+    }
 }
 
 impl From<TokenFault> for TermFault {
@@ -42,3 +63,28 @@ impl From<TermFault> for LineFault {
         }
     }
 }
+
+impl fmt::Display for TermFault {
+    fn fmt<W: fmt::Write>(&self, f: &mut fmt::Formatter<W>) -> fmt::Result {
+        match self {
+            TermFault::Token(fault) => fault.fmt(f),
+            TermFault::Unexpected { at, left: _ } => write!(
+                f,
+                "the term cannot go on like this at {at}"
+            ),
+        }
+    }
+}
+
+impl Error for TermFault {}
+
+impl fmt::Display for LineFault {
+    fn fmt<W: fmt::Write>(&self, f: &mut fmt::Formatter<W>) -> fmt::Result {
+        match self {
+            LineFault::Term(fault) => fault.fmt(f),
+            LineFault::Unexpected(at) => write!(f, "the line cannot go on like this at {at}"),
+        }
+    }
+}
+
+impl Error for LineFault {}

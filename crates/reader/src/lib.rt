@@ -2,7 +2,8 @@
 
 #![tactic(auto)]
 
+pub mod cursor;
 pub mod fault;
 pub mod op;
 pub mod sentence;
-pub mod term;
+pub mod span;

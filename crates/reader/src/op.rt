@@ -1,27 +1,15 @@
 //! How a term is built, step by step, from the parts of a line.
 
-// A step takes the terms that it needs from the top of a stack and puts its own there.
-// A part of the line is given by its first place and the place behind it; of a quoted name it is the inside.
-#[derive(Clone, Copy)]
+use crate::span::Span;
+
+/// A step takes the terms that it needs from the top of a stack and puts its own there.
+/// The span of a quoted name is that of its inside.
+#[derive(Clone, Copy, Debug, PartialEq, Eq)]
 pub enum Op {
-    Variable {
-        start: usize,
-        end: usize,
-    },
-    Integer {
-        start: usize,
-        end: usize,
-    },
-    Name {
-        start: usize,
-        end: usize,
-        arity: usize,
-    },
-    Quoted {
-        start: usize,
-        end: usize,
-        arity: usize,
-    },
+    Variable(Span),
+    Integer(Span),
+    Name { span: Span, arity: usize },
+    Quoted { span: Span, arity: usize },
     EmptyList,
     ListCell,
     Conjunction,

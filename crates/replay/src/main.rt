@@ -4,9 +4,8 @@
 
 mod script;
 
-use anyhow::anyhow;
 use chainstore::ChainStore;
-use rules::{Indicator, MakeFault, Rule, RuleStore, Stored};
+use rules::{Full, Indicator, Rule, RuleStore};
 use script::{Call, Script};
 use std::io::{BufWriter, Write};
 use tablestore::TableStore;
@@ -21,9 +20,7 @@ const CALLS: u32 = 1500;
 
 // The call and its indicator.
 fn tell_call<W: Write>(out: &mut W, call: &str, indicator: Indicator) -> anyhow::Result<()> {
-    let name = indicator.name();
-    let arity = indicator.arity();
-    write!(out, "{call} {name}/{arity}")?;
+    write!(out, "{call} {indicator}")?;
     Ok(())
 }
 
@@ -35,26 +32,28 @@ fn tell_label<W: Write>(out: &mut W, answer: Option<u32>) -> anyhow::Result<()> 
     Ok(())
 }
 
-fn tell_added<W: Write>(out: &mut W, answer: Option<u32>) -> anyhow::Result<()> {
+fn tell_added<W: Write>(out: &mut W, answer: Result<u32, Full>) -> anyhow::Result<()> {
     match answer {
-        Some(label) => writeln!(out, " label {label}")?,
-        None => writeln!(out, " full")?,
+        Ok(label) => writeln!(out, " label {label}")?,
+        Err(Full) => writeln!(out, " full")?,
     }
     Ok(())
 }
 
-fn tell_rule<W: Write>(out: &mut W, answer: Option<Stored<'_>>) -> anyhow::Result<()> {
+fn tell_rule<W: Write>(out: &mut W, answer: Option<Rule<'_>>) -> anyhow::Result<()> {
     match answer {
         Some(rule) => {
-            let name = rule.name;
-            let arity = rule.arity;
+            let Rule {
+                head,
+                body,
+                variables,
+                indicator,
+                ..
+            } = rule;
             let nodes = rule.nodes.len();
-            let head = rule.head;
-            let body = rule.body;
-            let variables = rule.variables;
             writeln!(
                 out,
-                " {name}/{arity} of {nodes} nodes, {head} {body} {variables}"
+                " {indicator} of {nodes} nodes, {head} {body} {variables}"
             )?;
         }
         None => writeln!(out, " none")?,
@@ -62,10 +61,10 @@ fn tell_rule<W: Write>(out: &mut W, answer: Option<Stored<'_>>) -> anyhow::Resul
     Ok(())
 }
 
-// The rule that a call of the script adds.
+// The rule that a call of the script adds: so many nodes of these, or all of them.
 fn rule_of(nodes: &[Node], indicator: Indicator, size: u32) -> Rule<'_> {
     Rule {
-        nodes,
+        nodes: &nodes[..nodes.len().min(size as usize)],
         head: size / 2,
         body: size,
         variables: size % 5,
@@ -82,13 +81,11 @@ fn obey<S: RuleStore, W: Write>(
     match call {
         Call::AddFront(indicator, size) => {
             tell_call(out, "front", indicator)?;
-            let part = &nodes[0..nodes.len().min(size as usize)];
-            tell_added(out, store.add_front(rule_of(part, indicator, size)).ok())
+            tell_added(out, store.add_front(rule_of(nodes, indicator, size)))
         }
         Call::AddBack(indicator, size) => {
             tell_call(out, "back", indicator)?;
-            let part = &nodes[0..nodes.len().min(size as usize)];
-            tell_added(out, store.add_back(rule_of(part, indicator, size)).ok())
+            tell_added(out, store.add_back(rule_of(nodes, indicator, size)))
         }
         Call::First(indicator) => {
             tell_call(out, "first", indicator)?;
@@ -131,22 +128,13 @@ fn replay<S: RuleStore, W: Write>(
     Ok(())
 }
 
-// A store that could not be made, as an error with its reason.
-fn made<S>(store: Result<S, MakeFault>) -> anyhow::Result<S> {
-    match store {
-        Ok(store) => Ok(store),
-        Err(MakeFault::Size) => Err(anyhow!("no store has this size")),
-        Err(MakeFault::Memory) => Err(anyhow!("there is no memory for the store")),
-    }
-}
-
 fn main(rt: HostRuntime) -> anyhow::Result<()> {
     let nodes = vec![in rt.alloc(); Node::Int(7); 16]?;
     let mut out = BufWriter::new(rt.alloc(), rt.stdout())?;
-    let mut table = made(TableStore::new(rt.alloc(), LABELS, SPACE))?;
+    let mut table = TableStore::new(rt.alloc(), LABELS, SPACE)?;
     writeln!(out, "table")?;
     replay(&mut table, nodes.as_slice(), &mut out)?;
-    let mut chain = made(ChainStore::new(rt.alloc(), LABELS, SPACE))?;
+    let mut chain = ChainStore::new(rt.alloc(), LABELS, SPACE)?;
     writeln!(out, "chain")?;
     replay(&mut chain, nodes.as_slice(), &mut out)?;
     out.flush()?;

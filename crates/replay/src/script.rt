@@ -2,8 +2,8 @@
 
 use rules::Indicator;
 
-// One call of a store.
-#[derive(Clone, Copy)]
+/// One call of a store.
+#[derive(Clone, Copy, Debug, PartialEq, Eq)]
 pub enum Call {
     AddFront(Indicator, u32),
     AddBack(Indicator, u32),
@@ -14,7 +14,7 @@ pub enum Call {
     Known(Indicator),
 }
 
-// The state from which the next call is drawn.
+/// The state from which the next call is drawn.
 #[derive(Drop)]
 pub struct Script {
     state: u32,

@@ -3,14 +3,14 @@
 
 #![tactic(auto)]
 
-use anyhow::anyhow;
-use checking::{LineBuffer, Refusal, RuleChecker};
+use anyhow::bail;
+use checking::{Fault, LineBuffer, Refusal, RuleChecker};
 use std::env;
-use std::io::{BufWriter, Read, Write};
+use std::io::{BufReader, BufWriter, Read, Write};
 use text::answer::RuleText;
 
 // How many lines there were, and what became of their rules.
-#[derive(Drop)]
+#[derive(Default, Drop)]
 struct Tally {
     lines: u64,
     rules: u64,
@@ -28,14 +28,12 @@ struct Session {
 // Whether the arguments ask for a failure where a rule is refused.
 fn is_strict(rt: &HostRuntime) -> anyhow::Result<bool> {
     let mut strict = false;
-    for (place, argument) in env::args(rt)?.enumerate() {
-        if place > 0 {
-            if argument.as_str() != "--strict" {
-                eprintln!(rt; "rulecheck: unknown argument {argument}; the only one is --strict")?;
-                return Err(anyhow!("unknown argument"));
-            }
-            strict = true;
+    for argument in env::args(rt)?.skip(1) {
+        if argument.as_str() != "--strict" {
+            eprintln!(rt; "rulecheck: unknown argument {argument}; the only one is --strict")?;
+            bail!("unknown argument");
         }
+        strict = true;
     }
     Ok(strict)
 }
@@ -49,7 +47,7 @@ fn tell_accepted<W: Write>(
     let line = session.tally.lines;
     write!(out, "{line}: ok ")?;
     if session.checker.write(rule).is_err() {
-        return Err(anyhow!("the rule is longer than any within the limits"));
+        bail!("the rule is longer than any within the limits");
     }
     out.write_all(session.checker.written())?;
     out.write_all(b"\n")?;
@@ -60,11 +58,8 @@ fn tell_accepted<W: Write>(
 fn point_at<W: Write>(out: &mut W, session: &Session, place: usize) -> anyhow::Result<()> {
     out.write_all(b"  ")?;
     out.write_all(session.line.bytes())?;
-    out.write_all(b"\n  ")?;
-    for _ in 0..place {
-        out.write_all(b" ")?;
-    }
-    out.write_all(b"^\n")?;
+    let width = place.saturating_add(1);
+    writeln!(out, "\n  {:>width$}", "^")?;
     Ok(())
 }
 
@@ -77,16 +72,14 @@ fn tell_refused<W: Write>(
     let line = session.tally.lines;
     let number = refusal.number();
     match refusal.fault() {
-        Some(fault) => {
-            let place = fault.place.saturating_add(1);
-            let kind = fault.kind.word();
-            writeln!(out, "{line}: refused {number} {place} {kind}")?;
-            point_at(out, session, fault.place)?;
+        Some(Fault { place, kind }) => {
+            let column = place.saturating_add(1);
+            writeln!(out, "{line}: refused {number} {column} {kind}")?;
+            point_at(out, session, place)?;
         }
         None => writeln!(out, "{line}: refused {number}")?,
     }
-    let sentence = refusal.sentence();
-    writeln!(out, "  {sentence}")?;
+    writeln!(out, "  {refusal}")?;
     Ok(())
 }
 
@@ -103,35 +96,17 @@ fn finish_line<W: Write>(out: &mut W, session: &mut Session) -> anyhow::Result<(
     Ok(())
 }
 
-fn take_bytes<W: Write>(out: &mut W, session: &mut Session, bytes: &[u8]) -> anyhow::Result<()> {
-    for byte in bytes {
-        if *byte == b'\n' {
-            finish_line(out, session)?;
-        } else {
-            session.line.push(*byte);
-        }
-    }
-    Ok(())
-}
-
 fn check_input<W: Write>(rt: &HostRuntime, out: &mut W) -> anyhow::Result<Tally> {
     let mut session = Session {
         checker: RuleChecker::new(rt.alloc())?,
         line: LineBuffer::new(rt.alloc())?,
-        tally: Tally {
-            lines: 0,
-            rules: 0,
-            refused: 0,
-        },
+        tally: Tally::default(),
     };
-    let mut input = rt.stdin();
-    let mut buffer = [0u8; 4096];
-    for _ in 0..u64::MAX {
-        let count = input.read(&mut buffer)?;
-        if count == 0 {
-            break;
+    for byte in BufReader::new(rt.alloc(), rt.stdin())?.bytes() {
+        match byte? {
+            b'\n' => finish_line(out, &mut session)?,
+            byte => session.line.push(byte),
         }
-        take_bytes(out, &mut session, &buffer[0..count])?;
     }
     if !session.line.is_empty() {
         finish_line(out, &mut session)?;
@@ -143,12 +118,10 @@ fn run(rt: &HostRuntime) -> anyhow::Result<()> {
     let strict = is_strict(rt)?;
     let mut out = BufWriter::new(rt.alloc(), rt.stdout())?;
     let tally = check_input(rt, &mut out)?;
-    let rules = tally.rules;
-    let refused = tally.refused;
-    writeln!(out, "{rules} rules, {refused} refused")?;
+    writeln!(out, "{} rules, {} refused", tally.rules, tally.refused)?;
     out.flush()?;
-    if strict && refused > 0 {
-        return Err(anyhow!("a rule was refused"));
+    if strict && tally.refused > 0 {
+        bail!("a rule was refused");
     }
     Ok(())
 }

@@ -117,7 +117,7 @@ pub distinct_placed : (e : End) (l : ℕ) (xs : List ℕ) → distinct xs ≡ tr
 distinct_placed front l xs d h = and_from (not (holds l xs)) (distinct xs) (ap not h) d
 distinct_placed back l xs d h = distinct_push l xs d h
 
-holds_placed : (e : End) (m l : ℕ) (xs : List ℕ) → holds m (placed e l xs) ≡ (eqb l m || holds m xs)
+pub holds_placed : (e : End) (m l : ℕ) (xs : List ℕ) → holds m (placed e l xs) ≡ (eqb l m || holds m xs)
 holds_placed front m l xs = refl
 holds_placed back m l xs = holds_push m l xs
 

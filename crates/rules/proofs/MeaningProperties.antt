@@ -112,6 +112,19 @@ distinct_without l (x ∷ xs) d =
           (ap not (holds_none l x xs (not-true (holds x xs) two.0))) (distinct_without l xs two.1)
     ]
 
+-- a label that is not there
+pub without_absent : (l : ℕ) (xs : List ℕ) → holds l xs ≡ false → without l xs ≡ xs
+without_absent l [] h = refl
+without_absent l (x ∷ xs) h =
+    let none = or_parts (eqb x l) (holds l xs) h in
+    ap (λ t. cond t xs (x ∷ without l xs)) none.0 ∙ ap (λ ys. x ∷ ys) (without_absent l xs none.1)
+
+pub behind_absent : (l : ℕ) (xs : List ℕ) → holds l xs ≡ false → behind l xs ≡ None
+behind_absent l [] h = refl
+behind_absent l (x ∷ xs) h =
+    let none = or_parts (eqb x l) (holds l xs) h in
+    ap (λ t. cond t (first_of xs) (behind l xs)) none.0 ∙ behind_absent l xs none.1
+
 pub holds_at : (xs : List ℕ) (n : ℕ) → n < length xs → holds (get_or xs n 0) xs ≡ true
 holds_at [] n h = absurd (omega arith)
 holds_at (x ∷ xs) zero h = or_left (eqb x x) (holds x xs) (eq-eqb x x refl)

@@ -1,9 +1,10 @@
 -- What each call of a store answers and leaves.
 use Rattle.std.specs.Prelude.{◌≡◌, ℕ, true, false, cond, ◌||◌, [], ◌∷◌, ◌++◌, length, Ok, Err, Result}
 use Rattle.rules.specs.declared.rule.Rule.{Rule}
-use Rattle.rules.specs.declared.rule.Stored.{Stored}
-use Rattle.rules.specs.declared.store.Full.{Full}
-use Rattle.rules.specs.Meaning.{Meaning, Value, is_of, is_full, End, placed, without}
+use Rattle.rules.specs.declared.fault.Full.{Full}
+use Rattle.rules.specs.declared.fault.MakeFault.{MakeFault}
+use Rattle.rules.specs.declared.fault.MakeFault.TheVariants.{Size, Memory}
+use Rattle.rules.specs.Meaning.{Meaning, Value, is_of, is_full, is_size, End, placed, without}
 
 abbrev pub value_of : Rule → Value
 value_of r = record {
@@ -13,16 +14,6 @@ value_of r = record {
   variables = r.variables;
   name = r.indicator.name;
   arity = r.indicator.arity;
-}
-
-abbrev pub stored_value : Stored → Value
-stored_value r = record {
-  nodes = r.nodes.now;
-  head = r.head;
-  body = r.body;
-  variables = r.variables;
-  name = r.name;
-  arity = r.arity;
 }
 
 -- two stores mean the same
@@ -54,3 +45,9 @@ pub record Erases (m : Meaning) (l : ℕ) (n : Meaning) : Type 0 where
   pub known : (f a : ℕ) → n.known f a ≡ m.known f a
   pub labels : n.labels ≡ m.labels
   pub space : n.space ≡ m.space
+
+-- something that was made for a size that a store can have; nothing for another size, nor for want of memory
+abbrev pub Makes : {S : Type 0} → (S → Type 0) → ℕ → ℕ → Result S MakeFault → Type 0
+Makes made labels space (Ok s) = (is_size labels space ≡ true) × made s
+Makes made labels space (Err Size) = is_size labels space ≡ false
+Makes made labels space (Err Memory) = is_size labels space ≡ true

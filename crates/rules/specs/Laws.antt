@@ -1,6 +1,6 @@
 -- Laws of stores: rules alike, what each call keeps, and that the same calls lead to the same meaning.
 use Rattle.std.specs.Prelude.{◌≡◌, ℕ, false, List, [], ◌∷◌, Some, Option, Result, ◌≢◌}
-use Rattle.rules.specs.declared.store.Full.{Full}
+use Rattle.rules.specs.declared.fault.Full.{Full}
 use Rattle.rules.specs.Meaning.{Meaning, Value, End, Lawful, Fresh, rule_at, next_in, holds}
 use Rattle.rules.specs.Calls.{Same, Adds, Erases}
 

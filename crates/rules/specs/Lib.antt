@@ -1,4 +1,7 @@
 pub mod Indicators
+pub mod Faults
 pub mod Meaning
 pub mod Calls
 pub mod Laws
+pub mod Tables
+pub mod Entries

@@ -30,8 +30,11 @@ used [] = 0
 used (v ∷ vs) = length v.nodes + used vs
 
 -- no label is left, or this rule's nodes would pass the space
+abbrev pub is_full_of : ℕ → ℕ → List Value → Value → Bool
+is_full_of labels space vs v = nat_le labels (length vs) || nat_lt space (used vs + length v.nodes)
+
 abbrev pub is_full : Meaning → Value → Bool
-is_full m v = nat_le m.labels (length m.rules) || nat_lt m.space (used m.rules + length v.nodes)
+is_full m v = is_full_of m.labels m.space m.rules v
 
 abbrev pub rule_at : List Value → ℕ → Option Value
 rule_at [] l = None

@@ -1,10 +1,12 @@
 //! The indicator of a predicate: its name and how many arguments it has.
 
-ghost use Rattle.std.specs.Prelude.{◌≡◌, true, is_some, IfSome};
+ghost use Rattle.std.specs.Prelude.{◌≡◌, ◌∷◌, ◌++◌, true, is_some, IfSome, Some, decimal};
 ghost use Rattle.rules.specs.Indicators.{fits};
 
-// A name by its number in the table of names, of which there are at most 512, and at most eight arguments.
-#[derive(Clone, Copy)]
+use std::fmt;
+
+/// A name by its number in the table of names, of which there are at most 512, and at most eight arguments.
+#[derive(Clone, Copy, Debug, PartialEq, Eq)]
 pub struct Indicator {
     name: u16,
     arity: u8,
@@ -12,7 +14,7 @@ pub struct Indicator {
 }
 
 impl Indicator {
-    // None if there is no such name or more than eight arguments.
+    /// None if there is no such name or more than eight arguments.
     pub fn new(name: u16, arity: u8) -> Option<Indicator>
         ensures made { is_some result ≡ fits name arity }
         ensures value { IfSome result (λ i. (i.name ≡ name) × (i.arity ≡ arity)) }
@@ -34,5 +36,15 @@ impl Indicator {
         ensures { result ≡ self.now.arity }
     {
         self.arity
+    }
+}
+
+impl fmt::Display for Indicator {
+    // name and arity in decimal, with a slash between them
+    ghost output = { λ i. Some (decimal i.name ++ 47 ∷ decimal i.arity) };
+
+    fn fmt<W: fmt::Write>(&self, f: &mut fmt::Formatter<W>) -> fmt::Result {
+        let Indicator { name, arity } = *self;
+        write!(f, "{name}/{arity}")
     }
 }

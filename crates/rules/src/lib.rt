@@ -2,12 +2,17 @@
 
 #![tactic(auto)]
 
+mod entry;
+pub mod fault;
 pub mod indicator;
 pub mod laws;
 pub mod rule;
 pub mod store;
+pub mod table;
 pub mod walk;
 
+pub use fault::{Full, MakeFault};
 pub use indicator::Indicator;
-pub use rule::{Rule, Stored};
-pub use store::{Full, MakeFault, RuleStore};
+pub use rule::Rule;
+pub use store::RuleStore;
+pub use table::RuleTable;

@@ -1,9 +1,10 @@
-//! A rule as it is added to a store, and as it is read from it.
+//! A rule, as it is added to a store and as it is read from it.
 
 use crate::indicator::Indicator;
 use terms::Node;
 
-// The nodes of head and body, arguments first, the places of the two, the number of variables, and the head's indicator.
+/// The nodes of head and body, arguments first, the places of the two, the number of variables, and the head's
+/// indicator.
 #[derive(Clone, Copy)]
 pub struct Rule<'a> {
     pub nodes: &'a [Node],
@@ -11,15 +12,4 @@ pub struct Rule<'a> {
     pub body: u32,
     pub variables: u32,
     pub indicator: Indicator,
-}
-
-// The same, with the name and the number of arguments of the head in place of its indicator.
-#[derive(Clone, Copy)]
-pub struct Stored<'a> {
-    pub nodes: &'a [Node],
-    pub head: u32,
-    pub body: u32,
-    pub variables: u32,
-    pub name: u16,
-    pub arity: u8,
 }

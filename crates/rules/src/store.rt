@@ -2,60 +2,39 @@
 
 ghost use Rattle.std.specs.Prelude.{◌≡◌};
 ghost use Rattle.std.specs.Option.{option_map};
-ghost use Rattle.rules.specs.declared.store.MakeFault.TheVariants.{Memory};
 ghost use Rattle.rules.specs.Meaning.{Meaning, Lawful, next_in, rule_at, front, back};
-ghost use Rattle.rules.specs.Calls.{Adds, Erases, value_of, stored_value};
+ghost use Rattle.rules.specs.Calls.{Adds, Erases, value_of};
 
+use crate::fault::Full;
 use crate::indicator::Indicator;
-use crate::rule::{Rule, Stored};
-use std::alloc::AllocError;
-
-// The store takes no more rules, or no more nodes.
-#[derive(Clone, Copy)]
-pub struct Full;
-
-// Why no store is made: a size that no store has, or want of memory.
-#[derive(Clone, Copy)]
-pub enum MakeFault {
-    Size,
-    Memory,
-}
-
-impl From<AllocError> for MakeFault {
-    ghost from_gives = { λ _ r. r ≡ Memory };
-
-    fn from(fault: AllocError) -> MakeFault {
-        let _ = fault;
-        MakeFault::Memory
-    }
-}
+use crate::rule::Rule;
 
 pub trait RuleStore {
     // every rule ever added by its label, for each indicator the row of labels of its live rules, and the known indicators
     ghost meaning: { Self → Meaning };
 
-    // Adds the rule before all others of its indicator, under the next label. Full, changing nothing, if it has no room.
+    /// Adds the rule before all others of its indicator, under the next label. Full, changing nothing, if it has no room.
     fn add_front(&mut self, rule: Rule<'_>) -> Result<u32, Full>
         ensures { Adds front (meaning self.old) (value_of rule.entry) result (meaning self.new) };
 
-    // The same behind all others.
+    /// The same behind all others.
     fn add_back(&mut self, rule: Rule<'_>) -> Result<u32, Full>
         ensures { Adds back (meaning self.old) (value_of rule.entry) result (meaning self.new) };
 
-    // The label of the first live rule, or of the next one after a label; none after a label that is not in the row.
+    /// The label of the first live rule, or of the next one after a label; none after a label that is not in the row.
     fn next(&self, indicator: Indicator, after: Option<u32>) -> Option<u32>
         ensures value { result ≡ next_in ((meaning self.now).row indicator.name indicator.arity) after }
         ensures lawful { Lawful (meaning self.now) };
 
-    // The rule with a label, live or erased.
-    fn read(&self, label: u32) -> Option<Stored<'_>>
-        ensures { option_map stored_value result ≡ rule_at (meaning self.now).rules label };
+    /// The rule with a label, live or erased.
+    fn read(&self, label: u32) -> Option<Rule<'_>>
+        ensures { option_map value_of result ≡ rule_at (meaning self.now).rules label };
 
-    // Takes the rule out of its row, if it is there.
+    /// Takes the rule out of its row, if it is there.
     fn erase(&mut self, label: u32)
         ensures { Erases (meaning self.old) label (meaning self.new) };
 
-    // Whether a rule of this indicator was ever added.
+    /// Whether a rule of this indicator was ever added.
     fn is_known(&self, indicator: Indicator) -> bool
         ensures { result ≡ (meaning self.now).known indicator.name indicator.arity };
 }

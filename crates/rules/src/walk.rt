@@ -6,7 +6,7 @@ use crate::indicator::Indicator;
 use crate::store::RuleStore;
 use std::alloc::AllocError;
 
-// Puts the labels of the row of an indicator into `out`, from the first on, in place of what it holds.
+/// Puts the labels of the row of an indicator into `out`, from the first on, in place of what it holds.
 pub fn walk<S: RuleStore>(
     store: &S,
     indicator: Indicator,

@@ -1,3 +1,2 @@
-mod EntriesProperties
 mod RowsProperties
 mod ViewsProperties

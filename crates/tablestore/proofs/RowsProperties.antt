@@ -1,13 +1,14 @@
 -- Rows of live labels: what adding, taking out and searching do to the row of each indicator.
 use Rattle.std.proofs.Common.{◌≡◌, ℕ, suc, ◌+◌, ◌<◌, ◌≤◌, Bool, true, false, cond, not, eqb, ltb, List, [], ◌∷◌, ◌++◌}
-use Rattle.std.proofs.Common.{length, get_or, drop, Some, None, sym, refl, ap, ◌∙◌, inl, inr, add-zero, arith}
-use Rattle.std.specs.List.{remove}
-use Rattle.std.proofs.lemmas.List.{at_drop_more, at_drop_all}
-use Rattle.std.proofs.lemmas.Bool.{cases_Bool, and_parts, and_from, or_from, or_parts, or_cases, ltb-true, lt-ltb}
-use Rattle.std.proofs.lemmas.Bool.{eqb-true, eq-eqb, ne_eqb, not-true, both_ways}
+use Rattle.std.proofs.Common.{length, drop, Some, None, sym, refl, ap, ◌∙◌, inl, inr, arith}
+use Rattle.std.specs.List.{remove, find, position, position_or_len}
+use Rattle.std.proofs.lemmas.List.{at_drop_all}
+use Rattle.std.proofs.lemmas.Bool.{cases_Bool, and_parts, and_from, or_from, or_parts, or_cases, ltb-true}
+use Rattle.std.proofs.lemmas.Bool.{lt-ltb, le-ltb, cases_lt}
+use Rattle.std.proofs.lemmas.Bool.{eqb-true, ne_eqb, not-true, both_ways}
 use Rattle.rules.specs.Meaning.{Value, End, front, back, placed, is_of, rule_at, is_of_rule, first_of, behind, without}
 use Rattle.rules.specs.Meaning.{holds, distinct}
-use Rattle.rules.proofs.MeaningProperties.{rule_at_front, rule_at_new}
+use Rattle.rules.proofs.MeaningProperties.{rule_at_front, rule_at_new, without_absent, behind_absent}
 use Rattle.rules.proofs.LawsProperties.{distinct_placed}
 use Rattle.tablestore.specs.Rows.{below, place_in, own}
 
@@ -139,18 +140,6 @@ distinct_own vs (x ∷ xs) f a d =
       | inr p ↦ ap (λ t. distinct (cond t (x ∷ own vs xs f a) (own vs xs f a))) p ∙ rest
     ]
 
-without_none : (l : ℕ) (xs : List ℕ) → holds l xs ≡ false → without l xs ≡ xs
-without_none l [] h = refl
-without_none l (x ∷ xs) h =
-    let none = or_parts (eqb x l) (holds l xs) h in
-    ap (λ t. cond t xs (x ∷ without l xs)) none.0 ∙ ap (λ ys. x ∷ ys) (without_none l xs none.1)
-
-behind_none : (l : ℕ) (xs : List ℕ) → holds l xs ≡ false → behind l xs ≡ None
-behind_none l [] h = refl
-behind_none l (x ∷ xs) h =
-    let none = or_parts (eqb x l) (holds l xs) h in
-    ap (λ t. cond t (first_of xs) (behind l xs)) none.0 ∙ behind_none l xs none.1
-
 -- a label that is no more live leaves its row
 pub own_without : (vs : List Value) (l : ℕ) (xs : List ℕ) (f a : ℕ)
     → own vs (without l xs) f a ≡ without l (own vs xs f a)
@@ -162,7 +151,7 @@ own_without vs l (x ∷ xs) f a =
             | inl p ↦ sym (ap (λ t. without l (cond t (x ∷ own vs xs f a) (own vs xs f a))) p
                 ∙ ap (λ t. cond t (own vs xs f a) (x ∷ without l (own vs xs f a))) e)
             | inr p ↦ sym (ap (λ t. without l (cond t (x ∷ own vs xs f a) (own vs xs f a))) p
-                ∙ without_none l (own vs xs f a) (own_none vs l xs f a
+                ∙ without_absent l (own vs xs f a) (own_none vs l xs f a
                 (ap (λ k. is_of_rule (rule_at vs k) f a) (sym (eqb-true x l e)) ∙ p)))
           ]
       | inr e ↦ ap (λ t. own vs (cond t xs (x ∷ without l xs)) f a) e
@@ -197,7 +186,7 @@ behind_own vs l (x ∷ xs) f a o =
 
 pub behind_other : (vs : List Value) (l : ℕ) (xs : List ℕ) (f a : ℕ) → is_of_rule (rule_at vs l) f a ≡ false
     → behind l (own vs xs f a) ≡ None
-behind_other vs l xs f a o = behind_none l (own vs xs f a) (own_none vs l xs f a o)
+behind_other vs l xs f a o = behind_absent l (own vs xs f a) (own_none vs l xs f a o)
 
 -- taking out the label at its place
 pub removed_place : (l : ℕ) (xs : List ℕ) → remove xs (place_in l xs) ≡ without l xs
@@ -221,54 +210,50 @@ without_past l (x ∷ xs) h =
           ap (λ t. cond t xs (x ∷ without l xs)) e ∙ ap (λ ys. x ∷ ys) (without_past l xs (omega arith))
     ]
 
--- one step of a search for a label
-pub place_here : (l : ℕ) (xs : List ℕ) (i x : ℕ) → i < length xs → x ≡ get_or xs i x → x ≡ l
-    → i + place_in l (drop i xs) ≡ i
-place_here l xs i x h r e =
-    ap (λ n. i + n) (at_drop_more (place_in l) xs i x h
-    ∙ ap (λ t. cond t 0 (suc (place_in l (drop (i + 1) xs)))) (eq-eqb (get_or xs i x) l (sym r ∙ e)))
-    ∙ add-zero i
-
-pub place_on : (l : ℕ) (xs : List ℕ) (i x : ℕ) → i < length xs → x ≡ get_or xs i x → (x ≡ l → ⊥)
-    → (i + 1) + place_in l (drop (i + 1) xs) ≡ i + place_in l (drop i xs)
-place_on l xs i x h r e =
-    let s : place_in l (drop i xs) ≡ suc (place_in l (drop (i + 1) xs))
-    = at_drop_more (place_in l) xs i x h
-    ∙ ap (λ t. cond t 0 (suc (place_in l (drop (i + 1) xs)))) (ne_eqb (get_or xs i x) l (λ z. e (r ∙ z))) in
-    omega arith
-
-pub place_end : (l : ℕ) (xs : List ℕ) (i : ℕ) → length xs ≤ i → i + place_in l (drop i xs) ≡ i
-place_end l xs i h = ap (λ n. i + n) (at_drop_all (place_in l) xs i h) ∙ add-zero i
-
-pub place_le : (l : ℕ) (xs : List ℕ) → place_in l xs ≤ length xs
-place_le l [] = omega arith
-place_le l (x ∷ xs) =
-    let h = place_le l xs in
+-- a search for a label, and its place
+place_is : (l : ℕ) (xs : List ℕ) → position_or_len (λ x. eqb x l) xs ≡ place_in l xs
+place_is l [] = refl
+place_is l (x ∷ xs) =
+    let h = place_is l xs in
     elim (cases_Bool (eqb x l)) [
-      | inl e ↦ let z = ap (λ t. cond t 0 (suc (place_in l xs))) e in omega arith
-      | inr e ↦ let z = ap (λ t. cond t 0 (suc (place_in l xs))) e in omega arith
+      | inl e ↦ ap (λ t. cond (not t) (1 + position_or_len (λ y. eqb y l) xs) 0) e
+          ∙ sym (ap (λ t. cond t 0 (suc (place_in l xs))) e)
+      | inr e ↦ let one : 1 + position_or_len (λ y. eqb y l) xs ≡ suc (place_in l xs) = omega arith in
+          ap (λ t. cond (not t) (1 + position_or_len (λ y. eqb y l) xs) 0) e ∙ one
+          ∙ sym (ap (λ t. cond t 0 (suc (place_in l xs))) e)
     ]
 
--- one step of a search for a label of an indicator
-own_step : (vs : List Value) (xs : List ℕ) (f a i x : ℕ) → i < length xs → x ≡ get_or xs i x
-    → first_of (own vs (drop i xs) f a)
-    ≡ first_of (cond (is_of_rule (rule_at vs x) f a) (x ∷ own vs (drop (i + 1) xs) f a) (own vs (drop (i + 1) xs) f a))
-own_step vs xs f a i x h r =
-    at_drop_more (λ ys. first_of (own vs ys f a)) xs i x h
-    ∙ ap (λ y. first_of (own vs (y ∷ drop (i + 1) xs) f a)) (sym r)
+pub place_found : (l i : ℕ) (xs : List ℕ) → position (λ x. eqb x l) xs ≡ Some i → (i ≡ place_in l xs) × (i < length xs)
+place_found l i xs e =
+    let p = position_or_len (λ x. eqb x l) xs in
+    let is = place_is l xs in
+    elim (cases_lt p (length xs)) [
+      | inl less ↦ let h = sym (ap (λ b. cond b (Some p) None) (lt-ltb p (length xs) less)) ∙ e in
+          let same : p ≡ i = cc in
+          (omega arith, omega arith)
+      | inr more ↦ let h = sym (ap (λ b. cond b (Some p) None) (le-ltb p (length xs) more)) ∙ e in absurd (cc)
+    ]
 
-pub own_here : (vs : List Value) (xs : List ℕ) (f a i x : ℕ) → i < length xs → x ≡ get_or xs i x
-    → true ≡ is_of_rule (rule_at vs x) f a → first_of (own vs (drop i xs) f a) ≡ Some x
-own_here vs xs f a i x h r o =
-    own_step vs xs f a i x h r
-    ∙ ap (λ t. first_of (cond t (x ∷ own vs (drop (i + 1) xs) f a) (own vs (drop (i + 1) xs) f a))) (sym o)
+pub place_missing : (l : ℕ) (xs : List ℕ) → position (λ x. eqb x l) xs ≡ None → length xs ≤ place_in l xs
+place_missing l xs e =
+    let p = position_or_len (λ x. eqb x l) xs in
+    let is = place_is l xs in
+    elim (cases_lt p (length xs)) [
+      | inl less ↦ let h = sym (ap (λ b. cond b (Some p) None) (lt-ltb p (length xs) less)) ∙ e in absurd (cc)
+      | inr more ↦ omega arith
+    ]
 
-pub own_on : (vs : List Value) (xs : List ℕ) (f a i x : ℕ) → i < length xs → x ≡ get_or xs i x
-    → false ≡ is_of_rule (rule_at vs x) f a
-    → first_of (own vs (drop (i + 1) xs) f a) ≡ first_of (own vs (drop i xs) f a)
-own_on vs xs f a i x h r o =
-    sym (own_step vs xs f a i x h r
-    ∙ ap (λ t. first_of (cond t (x ∷ own vs (drop (i + 1) xs) f a) (own vs (drop (i + 1) xs) f a))) (sym o))
+-- a search for a label of an indicator finds the first one of its row
+pub find_own : (vs : List Value) (f a : ℕ) (xs : List ℕ)
+    → find (λ l. is_of_rule (rule_at vs l) f a) xs ≡ first_of (own vs xs f a)
+find_own vs f a [] = refl
+find_own vs f a (x ∷ xs) =
+    elim (cases_Bool (is_of_rule (rule_at vs x) f a)) [
+      | inl e ↦ ap (λ t. cond t (Some x) (find (λ l. is_of_rule (rule_at vs l) f a) xs)) e
+          ∙ sym (ap (λ t. first_of (cond t (x ∷ own vs xs f a) (own vs xs f a))) e)
+      | inr e ↦ ap (λ t. cond t (Some x) (find (λ l. is_of_rule (rule_at vs l) f a) xs)) e ∙ find_own vs f a xs
+          ∙ sym (ap (λ t. first_of (cond t (x ∷ own vs xs f a) (own vs xs f a))) e)
+    ]
 
 pub own_past : (vs : List Value) (xs : List ℕ) (f a i : ℕ) → length xs ≤ i
     → first_of (own vs (drop i xs) f a) ≡ None

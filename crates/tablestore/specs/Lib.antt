@@ -1,5 +1,2 @@
-pub mod Entries
 pub mod Rows
 pub mod Views
-pub mod Kept
-pub mod Made

@@ -1,5 +1,5 @@
 -- The labels of the live rules, all in one order, and the row of each indicator.
-use Rattle.std.specs.Prelude.{ℕ, suc, Bool, true, cond, ◌&&◌, List, [], ◌∷◌, ◌==◌, nat_lt}
+use Rattle.std.specs.Prelude.{ℕ, suc, Bool, true, cond, ◌&&◌, List, [], ◌∷◌, ◌==◌, nat_lt, filter}
 use Rattle.rules.specs.Meaning.{Value, rule_at, is_of_rule}
 
 abbrev pub below : ℕ → List ℕ → Bool
@@ -13,5 +13,4 @@ place_in l (x ∷ xs) = cond (x == l) 0 (suc (place_in l xs))
 
 -- the labels of rules of one indicator
 abbrev pub own : List Value → List ℕ → ℕ → ℕ → List ℕ
-own vs [] f a = []
-own vs (l ∷ ls) f a = cond (is_of_rule (rule_at vs l) f a) (l ∷ own vs ls f a) (own vs ls f a)
+own vs ls f a = filter (λ l. is_of_rule (rule_at vs l) f a) ls

@@ -2,10 +2,7 @@
 
 #![tactic(auto)]
 
-mod change;
-mod entry;
 mod find;
-mod make;
 mod store;
 mod table;
 

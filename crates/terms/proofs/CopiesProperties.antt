@@ -1,8 +1,10 @@
 -- The last node of a copy: behind its arguments, or a leaf and the call of it.
-use Rattle.std.proofs.Common.{◌≡◌, ℕ, ◌+◌, ◌<◌, ◌≤◌, Bool, true, false, ltb, List, [], ◌∷◌, ◌++◌, length, get_or, take}
+use Rattle.std.proofs.Common.{◌≡◌, ℕ, ◌+◌, ◌<◌, ◌≤◌, true, ltb, List, [], ◌∷◌, ◌++◌, length, get_or, take}
 use Rattle.std.proofs.Common.{Some, None, Option, sym, refl, ap, ◌∙◌, subst, inl, inr, arith}
 use Rattle.std.proofs.lemmas.List.{length_push, length-take, take-append-le, take-take, take_all, take_at}
 use Rattle.std.proofs.lemmas.Bool.{lt-ltb, and_from}
+use Rattle.terms.specs.declared.form.Form.{Form}
+use Rattle.terms.specs.declared.form.Form.TheVariants.{Plain, Goal}
 use Rattle.terms.specs.declared.node.Node.{Node}
 use Rattle.terms.specs.declared.node.Node.TheVariants.{Var, Int, App}
 use Rattle.terms.specs.Term.{Term, app, nil, cons, size}
@@ -10,9 +12,8 @@ use Rattle.terms.specs.Known.{call_name}
 use Rattle.terms.specs.Rows.{build, meanings, meaning, fitting, fitting_from}
 use Rattle.terms.specs.Places.{no_node, is_leaf, place_for, with_node}
 use Rattle.terms.specs.Goals.{goal_form}
-use Rattle.terms.specs.Copies.{Reads, formed, Added, Laid, CopyOf}
+use Rattle.terms.specs.Copies.{Standard, Reads, formed, Added, Laid}
 use Rattle.terms.proofs.RowsProperties.{meaning_new, meaning_build, push_cases}
-use Rattle.terms.proofs.GoalsProperties.{size_positive}
 
 -- a row that begins with another is at least as long
 pub front_le : (B T : List Node) → take (length B) T ≡ B → length B ≤ length T
@@ -79,52 +80,35 @@ leaf_fits (Int i) e j = refl
 leaf_fits (App f n is) e j = let z : ◌≡◌ {A = ℕ} 0 1 = cc in absurd (omega arith)
 
 -- a leaf alone
-pub laid_leaf : (goal : Bool) (limit : ℕ) (B A : List Node) (x : Node) (r : Option ℕ) → goal ≡ false
+pub laid_leaf : (form : Form) (limit : ℕ) (B A : List Node) (x : Node) (r : Option ℕ) → form ≡ Plain
     → is_leaf x ≡ true → r ≡ place_for limit B x → A ≡ with_node limit B x
-    → Laid (Reads goal) (λ ns. formed goal (build ns [] x)) limit B A r
-laid_leaf goal limit B A x r plain leaf er ea =
-    laid_push (Reads goal) (λ ns. formed goal (build ns [] x)) limit B B A x r
+    → Laid (Reads form) (λ ns. formed form (build ns [] x)) limit B A r
+laid_leaf form limit B A x r plain leaf er ea =
+    laid_push (Reads form) (λ ns. formed form (build ns [] x)) limit B B A x r
     (take_all (length B) B (omega arith))
     (leaf_fits x leaf (length B))
-    (λ ns g. let one = leaf_size x leaf ns [] in let e = ap (λ b. size (formed b (build ns [] x))) plain in
+    (λ ns g. let one = leaf_size x leaf ns [] in let e = ap (λ k. size (formed k (build ns [] x))) plain in
     omega arith)
-    (λ ns g. leaf_build x leaf ns (meanings ns B) [] ∙ sym (ap (λ b. formed b (build ns [] x)) plain)) er ea
-
--- a leaf that does not fit
-pub laid_none : (goal : Bool) (limit : ℕ) (B A : List Node) (x : Node) (r : Option ℕ) → is_leaf x ≡ true → r ≡ None
-    → r ≡ place_for limit B x → A ≡ with_node limit B x
-    → Laid (Reads goal) (λ ns. formed goal (build ns [] x)) limit B A None
-laid_none goal limit B A x r leaf none er ea =
-    elim (push_cases limit B x r A (leaf_fits x leaf (length B)) er ea) [ inl w ↦ stands w.0 | inr w ↦ full w ]
-  where
-    stands : r ≡ Some (length B) → Laid (Reads goal) (λ ns. formed goal (build ns [] x)) limit B A None
-    stands e = let z : ◌≡◌ {A = ℕ} 0 1 = cc in absurd (omega arith)
-
-    full : (r ≡ None) × (A ≡ B) × (limit ≤ length B)
-        → Laid (Reads goal) (λ ns. formed goal (build ns [] x)) limit B A None
-    full w = (
-      ap (take (length B)) w.1 ∙ take_all (length B) B (omega arith),
-      λ ns g. let n = size_positive (formed goal (build ns [] x)) in let m = w.2 in omega arith,
-    )
+    (λ ns g. leaf_build x leaf ns (meanings ns B) [] ∙ sym (ap (λ k. formed k (build ns [] x)) plain)) er ea
 
 -- a leaf that stands, and the call of it
-called : (goal : Bool) (limit : ℕ) (B T A : List Node) (x : Node) (p : ℕ) (is : List ℕ) (r : Option ℕ)
-    → goal ≡ true → is_leaf x ≡ true → p ≡ length B → T ≡ B ++ x ∷ []
+called : (form : Form) (limit : ℕ) (B T A : List Node) (x : Node) (p : ℕ) (is : List ℕ) (r : Option ℕ)
+    → form ≡ Goal → is_leaf x ≡ true → p ≡ length B → T ≡ B ++ x ∷ []
     → r ≡ place_for limit T (App 6 1 (p ∷ is)) → A ≡ with_node limit T (App 6 1 (p ∷ is))
-    → Laid (Reads goal) (λ ns. formed goal (build ns [] x)) limit B A r
-called goal limit B T A x p is r whole leaf ep et er ea =
-    laid_push (Reads goal) (λ ns. formed goal (build ns [] x)) limit B T A (App 6 1 (p ∷ is)) r
+    → Laid (Reads form) (λ ns. formed form (build ns [] x)) limit B A r
+called form limit B T A x p is r whole leaf ep et er ea =
+    laid_push (Reads form) (λ ns. formed form (build ns [] x)) limit B T A (App 6 1 (p ∷ is)) r
     (ap (take (length B)) et ∙ take_at B (x ∷ []) (length B) refl)
     (and_from (ltb p (length T)) true (lt-ltb p (length T) (let n = longer in omega arith)) refl) grown means er ea
   where
     longer : length T ≡ length B + 1
     longer = ap length et ∙ length_push B x
 
-    grown : (ns : List (List ℕ)) → Reads goal ns → length T + 1 ≡ length B + size (formed goal (build ns [] x))
+    grown : (ns : List (List ℕ)) → Reads form ns → length T + 1 ≡ length B + size (formed form (build ns [] x))
     grown ns g =
         let n = longer in
         let one = leaf_size x leaf ns [] in
-        let e = ap (λ b. size (formed b (build ns [] x))) whole in
+        let e = ap (λ k. size (formed k (build ns [] x))) whole in
         let d = ap size (leaf_form x leaf ns []) in
         omega arith
 
@@ -133,46 +117,47 @@ called goal limit B T A x p is r whole leaf ep et er ea =
         ap (λ l. meaning ns l p) et ∙ ap (meaning ns (B ++ x ∷ [])) ep
         ∙ meaning_new ns B x ∙ leaf_build x leaf ns (meanings ns B) []
 
-    means : (ns : List (List ℕ)) → Reads goal ns
-        → build ns (meanings ns T) (App 6 1 (p ∷ is)) ≡ formed goal (build ns [] x)
+    means : (ns : List (List ℕ)) → Reads form ns
+        → build ns (meanings ns T) (App 6 1 (p ∷ is)) ≡ formed form (build ns [] x)
     means ns g =
-        ap (λ f. app f (cons (meaning ns T p) nil)) (g whole).call
+        let standard : Standard ns = subst (λ k. Reads k ns) whole g in
+        ap (λ f. app f (cons (meaning ns T p) nil)) standard.call
         ∙ ap (λ t. app call_name (cons t nil)) (leaf_there ns)
         ∙ sym (leaf_form x leaf ns [])
-        ∙ sym (ap (λ b. formed b (build ns [] x)) whole)
+        ∙ sym (ap (λ k. formed k (build ns [] x)) whole)
 
-pub laid_call : (goal : Bool) (limit : ℕ) (B T A : List Node) (x : Node) (p : ℕ) (is : List ℕ) (q r : Option ℕ)
-    → goal ≡ true → is_leaf x ≡ true
+pub laid_call : (form : Form) (limit : ℕ) (B T A : List Node) (x : Node) (p : ℕ) (is : List ℕ) (q r : Option ℕ)
+    → form ≡ Goal → is_leaf x ≡ true
     → q ≡ Some p → q ≡ place_for limit B x → T ≡ with_node limit B x
     → r ≡ place_for limit T (App 6 1 (p ∷ is)) → A ≡ with_node limit T (App 6 1 (p ∷ is))
-    → Laid (Reads goal) (λ ns. formed goal (build ns [] x)) limit B A r
-laid_call goal limit B T A x p is q r whole leaf eq ep et er ea =
+    → Laid (Reads form) (λ ns. formed form (build ns [] x)) limit B A r
+laid_call form limit B T A x p is q r whole leaf eq ep et er ea =
     elim (push_cases limit B x q T (leaf_fits x leaf (length B)) ep et) [
       | inl w ↦ stands w.0 w.1
       | inr w ↦ full w.0
     ]
   where
     stands : q ≡ Some (length B) → T ≡ B ++ x ∷ []
-        → Laid (Reads goal) (λ ns. formed goal (build ns [] x)) limit B A r
-    stands e f = let d : p ≡ length B = cc in called goal limit B T A x p is r whole leaf d f er ea
+        → Laid (Reads form) (λ ns. formed form (build ns [] x)) limit B A r
+    stands e f = let d : p ≡ length B = cc in called form limit B T A x p is r whole leaf d f er ea
 
-    full : q ≡ None → Laid (Reads goal) (λ ns. formed goal (build ns [] x)) limit B A r
+    full : q ≡ None → Laid (Reads form) (λ ns. formed form (build ns [] x)) limit B A r
     full e = let z : ◌≡◌ {A = ℕ} 0 1 = cc in absurd (omega arith)
 
 -- the leaf that stands at a place
-pub laid_at : (goal : Bool) (limit : ℕ) (S B A : List Node) (at : ℕ) (x : Node) (r : Option ℕ)
+pub laid_at : (form : Form) (limit : ℕ) (S B A : List Node) (at : ℕ) (x : Node) (r : Option ℕ)
     → fitting_from 0 S ≡ true → at < length S
-    → get_or S at no_node ≡ x → is_leaf x ≡ true → Laid (Reads goal) (λ ns. formed goal (build ns [] x)) limit B A r
-    → Laid (Reads goal) (λ ns. formed goal (meaning ns S at)) limit B A r
-laid_at goal limit S B A at x r fit l e leaf laid = again r laid
+    → get_or S at no_node ≡ x → is_leaf x ≡ true → Laid (Reads form) (λ ns. formed form (build ns [] x)) limit B A r
+    → Laid (Reads form) (λ ns. formed form (meaning ns S at)) limit B A r
+laid_at form limit S B A at x r fit l e leaf laid = again r laid
   where
-    same : (ns : List (List ℕ)) → formed goal (build ns [] x) ≡ formed goal (meaning ns S at)
+    same : (ns : List (List ℕ)) → formed form (build ns [] x) ≡ formed form (meaning ns S at)
     same ns =
-        ap (formed goal) (leaf_build x leaf ns [] (meanings ns S) ∙ ap (build ns (meanings ns S)) (sym e)
+        ap (formed form) (leaf_build x leaf ns [] (meanings ns S) ∙ ap (build ns (meanings ns S)) (sym e)
         ∙ sym (meaning_build ns S fit at l))
 
-    again : (o : Option ℕ) → Laid (Reads goal) (λ ns. formed goal (build ns [] x)) limit B A o
-        → Laid (Reads goal) (λ ns. formed goal (meaning ns S at)) limit B A o
+    again : (o : Option ℕ) → Laid (Reads form) (λ ns. formed form (build ns [] x)) limit B A o
+        → Laid (Reads form) (λ ns. formed form (meaning ns S at)) limit B A o
     again None h = (h.0, λ ns g. let a = h.1 ns g in let b = ap size (same ns) in omega arith)
     again (Some p) h =
         record {
@@ -181,20 +166,3 @@ laid_at goal limit S B A at x r fit l e leaf laid = again r laid
           grown = λ ns g. let a = h.grown ns g in let b = ap size (same ns) in omega arith;
           means = λ ns g. h.means ns g ∙ same ns;
         }
-
--- a copy that is read by fewer names, in a form that is called otherwise
-pub copy_as : (goal : Bool) (Good : List (List ℕ) → Type 0) (form : Term → Term)
-    → ((ns : List (List ℕ)) → Good ns → Reads goal ns)
-    → ((t : Term) → formed goal t ≡ form t) → (S : List Node) (at limit : ℕ) (B A : List Node) (r : Option ℕ)
-    → CopyOf (Reads goal) (formed goal) S at limit B A r → CopyOf Good form S at limit B A r
-copy_as goal Good form reads same S at limit B A None h =
-    (h.0, λ l ns g. let a = h.1 l ns (reads ns g) in let b = ap size (same (meaning ns S at)) in omega arith)
-copy_as goal Good form reads same S at limit B A (Some p) h = (
-  h.0,
-  record {
-    last = h.1.last;
-    kept = h.1.kept;
-    grown = λ ns g. let a = h.1.grown ns (reads ns g) in let b = ap size (same (meaning ns S at)) in omega arith;
-    means = λ ns g. h.1.means ns (reads ns g) ∙ same (meaning ns S at);
-  },
-)

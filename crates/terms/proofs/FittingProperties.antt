@@ -1,8 +1,8 @@
 -- Places below a place, and rows in which every node may stand where it stands.
 use Rattle.std.proofs.Common.{◌≡◌, ℕ, zero, suc, ◌+◌, ◌<◌, ◌≤◌, Bool, true, false, ◌&&◌, ltb, leb, List, [], ◌∷◌, ◌++◌}
-use Rattle.std.proofs.Common.{length, get_or, take, sym, refl, ap, ◌∙◌, inl, inr, add-zero, zero-add, arith}
-use Rattle.std.proofs.lemmas.List.{length-take-le, get_or-take}
-use Rattle.std.proofs.lemmas.Bool.{ltb-true, leb-true, lt-ltb, and_parts, and_from, cases_Bool}
+use Rattle.std.proofs.Common.{length, get_or, take, sym, refl, ap, ◌∙◌, add-zero, zero-add, arith}
+use Rattle.std.proofs.lemmas.List.Folds.{list_all-append}
+use Rattle.std.proofs.lemmas.Bool.{ltb-true, leb-true, lt-ltb, and_parts, and_from}
 use Rattle.terms.specs.declared.node.Node.{Node}
 use Rattle.terms.specs.declared.node.Node.TheVariants.{App}
 use Rattle.terms.specs.Rows.{all_below, fitting, fitting_from}
@@ -12,14 +12,9 @@ pub and_assoc : (x y z : Bool) → (x && (y && z)) ≡ ((x && y) && z)
 and_assoc true y z = refl
 and_assoc false y z = refl
 
-pub all_below_append : (j : ℕ) (is ks : List ℕ) → all_below j (is ++ ks) ≡ (all_below j is && all_below j ks)
-all_below_append j [] ks = refl
-all_below_append j (i ∷ is) ks =
-    ap (λ b. ltb i j && b) (all_below_append j is ks) ∙ and_assoc (ltb i j) (all_below j is) (all_below j ks)
-
 pub all_below_push : (j : ℕ) (is : List ℕ) (i : ℕ) → all_below j is ≡ true → i < j → all_below j (is ++ i ∷ []) ≡ true
 all_below_push j is i below l =
-    all_below_append j is (i ∷ [])
+    list_all-append (λ k. ltb k j) is (i ∷ [])
     ∙ and_from (all_below j is) (all_below j (i ∷ [])) below (and_from (ltb i j) true (lt-ltb i j l) refl)
 
 pub all_below_at : (j : ℕ) (is : List ℕ) → all_below j is ≡ true → (k : ℕ) → k < length is → get_or is k 0 < j
@@ -34,19 +29,6 @@ all_below_more j k l (i ∷ is) below =
     let two = and_parts (ltb i j) (all_below j is) below in
     let less = ltb-true i j two.0 in
     and_from (ltb i k) (all_below k is) (lt-ltb i k (omega arith)) (all_below_more j k l is two.1)
-
--- one place of the first n is not below j
-pub all_below_none : (j n : ℕ) (is : List ℕ) (k : ℕ) → k < n → n ≤ length is → j ≤ get_or is k 0
-    → all_below j (take n is) ≡ false
-all_below_none j n is k l m past =
-    elim (cases_Bool (all_below j (take n is))) [ inl e ↦ never e | inr e ↦ e ]
-  where
-    never : all_below j (take n is) ≡ true → all_below j (take n is) ≡ false
-    never e =
-        let same = get_or-take n is k 0 l in
-        let all = length-take-le n is m in
-        let less = all_below_at j (take n is) e k (omega arith) in
-        absurd (omega arith)
 
 pub fitting_args : (j f n : ℕ) (is : List ℕ) → fitting j (App f n is) ≡ true
     → (n ≤ 8) × (all_below j (take n is) ≡ true)

@@ -9,6 +9,3 @@ row_nodes_fitting r = r.before
 
 pub row_nodes_few : (r : Row) → length (row_nodes r) ≤ row_limit r
 row_nodes_few r = omega arith
-
-pub row_limit_small : (r : Row) → row_limit r ≤ 65536
-row_limit_small r = r.small

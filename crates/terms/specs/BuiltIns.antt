@@ -1,5 +1,11 @@
 -- The 29 built-in predicates: by the place of their name among the known ones, and by the name itself.
 use Rattle.std.specs.Prelude.{ℕ, Bool, false, cond, ◌&&◌, ◌||◌, List, [], ◌∷◌, codes, ◌==◌, nat_le, nat_lt, slice_index}
+use Rattle.std.specs.Prelude.{◌≡◌, ◌≤◌, Result, MatchResult}
+use Rattle.terms.specs.declared.built_in.BuiltIn.{BuiltIn}
+use Rattle.terms.specs.declared.built_in.BuiltIn.TheVariants.{True, Fail, False, And, Or, Cut, Call, Not, Catch, Throw}
+use Rattle.terms.specs.declared.built_in.BuiltIn.TheVariants.{FindAll, Unify, Is, Equal, NotEqual, Less, AtMost, Greater}
+use Rattle.terms.specs.declared.built_in.BuiltIn.TheVariants.{AtLeast, AssertA, AssertZ, Retract}
+use Rattle.terms.specs.declared.built_in.NotBuiltIn.{NotBuiltIn}
 use Rattle.terms.specs.Goals.{same}
 use Rattle.terms.specs.Known.{call_name, comma_name, semicolon_name, true_name}
 
@@ -12,6 +18,35 @@ arities =
 -- whether the known name at a place is a built-in predicate of so many arguments
 abbrev pub built_in : ℕ → ℕ → Bool
 built_in f n = cond (f == 6) (nat_le 1 n && nat_le n 8) (nat_lt f 22 && n == slice_index arities f)
+
+-- the place of its name among the known ones
+abbrev pub place : BuiltIn → ℕ
+place True = 0
+place Fail = 1
+place False = 2
+place And = 3
+place Or = 4
+place Cut = 5
+place Call = 6
+place Not = 7
+place Catch = 8
+place Throw = 9
+place FindAll = 10
+place Unify = 11
+place Is = 12
+place Equal = 13
+place NotEqual = 14
+place Less = 15
+place AtMost = 16
+place Greater = 17
+place AtLeast = 18
+place AssertA = 19
+place AssertZ = 20
+place Retract = 21
+
+-- the built-in predicate whose name has this place, or the place itself where no such name has it
+abbrev pub NamedBy : ℕ → Result BuiltIn NotBuiltIn → Type 0
+NamedBy f r = MatchResult r (λ b. place b ≡ f) (λ e. (e.0 ≡ f) × (22 ≤ f))
 
 -- whether a name is one of these
 abbrev pub one_of : List ℕ → List (List ℕ) → Bool

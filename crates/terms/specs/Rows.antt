@@ -1,5 +1,6 @@
 -- What a row of nodes means: the term of each node, built from the terms of the nodes before it.
 use Rattle.std.specs.Prelude.{ℕ, ◌+◌, Bool, true, ◌&&◌, List, [], ◌∷◌, ◌++◌, take, pos, nat_le, nat_lt, slice_index_or}
+use Rattle.std.specs.List.{list_all}
 use Rattle.terms.specs.declared.node.Node.{Node}
 use Rattle.terms.specs.declared.node.Node.TheVariants.{Var, Int, App}
 use Rattle.terms.specs.Term.{Term, Terms, var, int, app, nil, cons}
@@ -26,10 +27,9 @@ meanings ns xs = grow ns [] xs
 abbrev pub meaning : List (List ℕ) → List Node → ℕ → Term
 meaning ns xs i = slice_index_or (meanings ns xs) i (int (pos 0))
 
--- the first k arguments stand below j
+-- all these places stand below j
 abbrev pub all_below : ℕ → List ℕ → Bool
-all_below j [] = true
-all_below j (i ∷ is) = nat_lt i j && all_below j is
+all_below j is = list_all (λ i. nat_lt i j) is
 
 -- a node that may stand at j
 abbrev pub fitting : ℕ → Node → Bool

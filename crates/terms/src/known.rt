@@ -4,6 +4,8 @@ ghost use Rattle.std.specs.Prelude.{◌≡◌, ◌<◌, [], slice_index_or};
 ghost use Rattle.terms.specs.Known.{known};
 ghost use Rattle.terms.specs.BuiltIns.{built_in, is_built_in};
 
+use crate::built_in::BuiltIn;
+
 pub const TRUE: u16 = 0;
 
 pub const COMMA: u16 = 3;
@@ -16,11 +18,8 @@ pub const EMPTY_LIST: u16 = 45;
 
 pub const LIST_CELL: u16 = 46;
 
-// How many names are known before any text is read.
+/// How many names are known before any text is read.
 pub const KNOWN: usize = 48;
-
-// The first so many known names are those of built-in predicates.
-pub const BUILT_INS: u16 = 22;
 
 pub const MAX_NODES: usize = 256;
 
@@ -30,21 +29,13 @@ pub const MAX_ARGUMENTS: usize = 8;
 
 pub const MAX_NAME: usize = 64;
 
-// Whether the name at a place and so many arguments are those of a built-in predicate.
+/// Whether the name at a place and so many arguments are those of a built-in predicate.
 pub fn is_built_in(name: u16, arity: usize) -> bool
     ensures placed { result ≡ built_in name arity }
     ensures named { name < 48 → result ≡ is_built_in (slice_index_or known name []) arity }
 {
-    match name {
-        // true, fail, false, !
-        0..=2 | 5 => arity == 0,
-        CALL => 1 <= arity && arity <= MAX_ARGUMENTS,
-        // \+, throw, asserta, assertz, retract
-        7 | 9 | 19..=21 => arity == 1,
-        // ,  ;  =  is  =:=  =\=  <  =<  >  >=
-        3 | 4 | 11..=18 => arity == 2,
-        // catch, findall
-        8 | 10 => arity == 3,
-        _ => false,
+    match BuiltIn::try_from(name) {
+        Ok(known) => known.takes(arity),
+        Err(_) => false,
     }
 }

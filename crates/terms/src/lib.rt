@@ -2,7 +2,9 @@
 
 #![tactic(auto)]
 
+pub mod built_in;
 pub mod copy;
+pub mod form;
 pub mod known;
 pub mod node;
 pub mod row;

@@ -8,7 +8,8 @@ use crate::node::Node;
 mod change;
 mod read;
 
-// At most `limit` nodes, of which each has at most eight arguments, and they stand before it.
+/// At most `limit` nodes, of which each has at most eight arguments, and they stand before it.
+/// Ghost fields and no model, which would be no plainer: crates above read from a row itself that its nodes fit.
 #[derive(Drop)]
 pub struct Row {
     nodes: Vec<Node>,

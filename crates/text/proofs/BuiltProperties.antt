@@ -18,7 +18,7 @@ use Rattle.terms.proofs.RowsProperties.{meaning_new}
 use Rattle.grammar.specs.Written.{var, int}
 use Rattle.reader.specs.Ops.{Stack, take_many, named, joined}
 use Rattle.text.specs.declared.fault.LimitFault.{LimitFault}
-use Rattle.text.specs.declared.span.Span.{Span}
+use Rattle.reader.specs.declared.span.Span.{Span}
 use Rattle.text.specs.Integers.{fits_integer, integer_of, read_integer}
 use Rattle.text.specs.Numbering.{number_of, meets, met_stack, numbered_all, numbered_stack}
 use Rattle.text.specs.Limits.{entered_stack, nodes_stack, small_stack, room_for_stack, stack_fits}

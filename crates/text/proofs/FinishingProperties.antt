@@ -1,8 +1,8 @@
 -- A rule or query that was built, copied into an empty row.
 use Rattle.std.proofs.Common.{◌≡◌, ℕ, suc, ◌<◌, ◌≤◌, Bool, true, false, cond, ◌&&◌, ltb, List, [], ◌∷◌, length, get_or}
-use Rattle.std.proofs.Common.{take, Some, None, Option, sym, refl, ap, ◌∙◌, subst, inl, inr, arith}
+use Rattle.std.proofs.Common.{take, is_err, Some, None, Option, Ok, Err, Result, sym, refl, ap, ◌∙◌, subst, inl, inr, arith}
 use Rattle.std.proofs.lemmas.List.{length-take}
-use Rattle.std.proofs.lemmas.Bool.{ltb-true, lt-ltb, and_parts, cond-true, cases_Bool, both_ways}
+use Rattle.std.proofs.lemmas.Bool.{ltb-true, lt-ltb, and_parts, cond-true, cases_Bool, both_ways, false≢true}
 use Rattle.names.specs.Listed.{Lawful, place_of}
 use Rattle.names.proofs.InternedProperties.{kept_same}
 use Rattle.terms.specs.declared.node.Node.{Node}
@@ -25,15 +25,18 @@ use Rattle.grammar.specs.Written.{Written, Writtens, var, int, app, nil, cons, s
 use Rattle.reader.specs.declared.sentence.Shape.{Shape}
 use Rattle.reader.specs.declared.sentence.Shape.TheVariants as shape
 use Rattle.reader.specs.Ops.{Stack}
+use Rattle.text.specs.declared.answer.RuleText.{RuleText}
+use Rattle.text.specs.declared.answer.QueryText.{QueryText}
+use Rattle.text.specs.declared.fault.LimitFault.{LimitFault}
 use Rattle.text.specs.declared.fault.HeadFault.{HeadFault}
 use Rattle.text.specs.declared.fault.HeadFault.TheVariants.{VariableHead, IntegerHead, BuiltInHead}
-use Rattle.text.specs.declared.span.Span.{Span}
+use Rattle.reader.specs.declared.span.Span.{Span}
 use Rattle.text.specs.Numbering.{Met, met, met_stack, numbered, numbered_all}
 use Rattle.text.specs.Limits.{rule_fits, query_fits, stack_fits}
 use Rattle.text.specs.Building.{Built}
 use Rattle.text.specs.Rules.{body_fault, head_fault}
 use Rattle.text.specs.Faults.{head_node_fault, body_node_fault, first_of, nodes_fault, Eight}
-use Rattle.text.specs.Finishing.{Leaves, CopiedRule, CopiedQuery}
+use Rattle.text.specs.Finishing.{Leaves, CopiedRule, RuleCopied, CopiedQuery, QueryCopied}
 use Rattle.text.proofs.NumberingProperties.{length_cuts}
 use Rattle.text.proofs.StacksProperties.{fits_parts, fits_from, named_parts}
 use Rattle.text.proofs.RulesProperties.{rule_from, rule_large, query_fits_from, query_large}
@@ -124,13 +127,26 @@ built_variables text first st ns nodes places spans b = sym (length_cuts text sp
 -- the copies
 
 pub copy_moved : (Good : List (List ℕ) → Type 0) (form : Term → Term) (source source' : List Node) (at limit limit' : ℕ)
-    (before before' after : List Node) (r : Option ℕ) → source ≡ source' → limit ≡ limit' → before ≡ before'
-    → CopyOf Good form source at limit before after r → CopyOf Good form source' at limit' before' after r
-copy_moved Good form source source' at limit limit' before before' after r es el eb c =
+    (before before' after : List Node) (r r' : Option ℕ) → source ≡ source' → limit ≡ limit' → before ≡ before' → r ≡ r'
+    → CopyOf Good form source at limit before after r → CopyOf Good form source' at limit' before' after r'
+copy_moved Good form source source' at limit limit' before before' after r r' es el eb er c =
     let P : List Node → Type 0 = λ s. CopyOf Good form s at limit before after r in
     let Q : ℕ → Type 0 = λ l. CopyOf Good form source' at l before after r in
     let R : List Node → Type 0 = λ b. CopyOf Good form source' at limit' b after r in
-    subst R eb (subst Q el (subst P es c))
+    let S : Option ℕ → Type 0 = λ o. CopyOf Good form source' at limit' before' after o in
+    subst S er (subst R eb (subst Q el (subst P es c)))
+
+-- what did not fit, as an answer
+
+pub query_uncopied : (first : List (List ℕ)) (g : Written) (ns : List (List ℕ)) (nodes : List Node)
+    (r : Result QueryText LimitFault) → is_err r ≡ true → query_fits first g ≡ false → QueryCopied first g ns nodes r
+query_uncopied first g ns nodes (Ok t) e h = absurd (false≢true e)
+query_uncopied first g ns nodes (Err f) e h = h
+
+pub rule_uncopied : (first : List (List ℕ)) (h b : Written) (ns : List (List ℕ)) (nodes : List Node)
+    (r : Result RuleText LimitFault) → is_err r ≡ true → rule_fits first h b ≡ false → RuleCopied first h b ns nodes r
+rule_uncopied first h b ns nodes (Ok t) e f = absurd (false≢true e)
+rule_uncopied first h b ns nodes (Err l) e f = f
 
 pub query_copied : (first : List (List ℕ)) (g : Written) (ns : List (List ℕ)) (nodes after : List Node) (p x n : ℕ)
     → stack_fits first (g ∷ []) ≡ true → Tabled ns → meaning ns nodes p ≡ numbered [] g → n ≡ length (met [] g)

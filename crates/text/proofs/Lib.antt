@@ -1,5 +1,3 @@
-mod PartsProperties
-mod UndoubleProperties
 mod IntegersProperties
 mod NumberingProperties
 mod StacksProperties

@@ -1,70 +1,30 @@
 -- Numbers of variables: an earlier one of the same name, or the next.
-use Rattle.std.proofs.Common.{◌≡◌, ℕ, suc, ◌+◌, ◌<◌, ◌≤◌, Bool, true, false, cond, ◌&&◌, eqb, List, [], ◌∷◌, ◌++◌}
-use Rattle.std.proofs.Common.{length, get_or, drop, Some, None, Option, sym, refl, ap, ◌∙◌, inl, inr, zero-add, arith}
-use Rattle.std.proofs.lemmas.List.{length_push, drop_more, drop_all}
-use Rattle.std.proofs.lemmas.Bool.{eqb-true, eq-eqb, ne_eqb, and_parts, and_from, and_right, cases_Bool}
+use Rattle.std.proofs.Common.{◌≡◌, ℕ, suc, ◌+◌, ◌<◌, ◌≤◌, Bool, true, false, cond, ◌&&◌, List, [], ◌∷◌, ◌++◌}
+use Rattle.std.proofs.Common.{length, Some, None, Option, sym, refl, ap, ◌∙◌, inl, inr, zero-add, arith}
+use Rattle.std.proofs.lemmas.List.{length_push}
+use Rattle.std.proofs.lemmas.Bool.{cases_Bool}
+use Rattle.std.specs.Prelude.{nat_eq, ◌==◌}
+use Rattle.std.specs.List.{position_from}
+use lib.Pointwise.{pointwise}
 use Rattle.tokens.specs.Bytes.{same}
 use Rattle.reader.specs.Ops.{part}
-use Rattle.text.specs.declared.span.Span.{Span}
+use Rattle.reader.specs.declared.span.Span.{Span}
 use Rattle.text.specs.Numbering.{Met, place_from, is_met, found_from, is_lone, found_in, number_of, meets}
 use Rattle.text.specs.Building.{cuts}
 
-pub and_true : (x : Bool) → (x && true) ≡ x
-and_true true = refl
-and_true false = refl
+-- `==` of slices
+pub same_slices : (xs ys : List ℕ) → pointwise nat_eq xs ys ≡ same xs ys
+same_slices [] [] = refl
+same_slices [] (y ∷ ys) = refl
+same_slices (x ∷ xs) [] = refl
+same_slices (x ∷ xs) (y ∷ ys) = ap (λ b. (x == y) && b) (same_slices xs ys)
 
-pub lone_one : (a : List ℕ) → length a ≡ 1 → eqb (get_or a 0 0) 95 ≡ is_lone a
-lone_one [] e = absurd (omega arith)
-lone_one (x ∷ []) e = sym (and_true (eqb x 95))
-lone_one (x ∷ y ∷ ys) e = absurd (omega arith)
-
-pub lone_other : (a : List ℕ) → (length a ≡ 1 → ⊥) → eqb (length a) 1 ≡ is_lone a
-lone_other a n = ne_eqb (length a) 1 n ∙ sym (never a n)
-  where
-    never : (a : List ℕ) → (length a ≡ 1 → ⊥) → is_lone a ≡ false
-    never [] n = refl
-    never (x ∷ []) n = absurd (n refl)
-    never (x ∷ y ∷ ys) n = and_right (eqb x 95) false refl
-
-same_true : (xs ys : List ℕ) → same xs ys ≡ true → xs ≡ ys
-same_true [] [] e = refl
-same_true [] (y ∷ ys) e = let z : ◌≡◌ {A = ℕ} 0 1 = cc in absurd (omega arith)
-same_true (x ∷ xs) [] e = let z : ◌≡◌ {A = ℕ} 0 1 = cc in absurd (omega arith)
-same_true (x ∷ xs) (y ∷ ys) e =
-    let two = and_parts (eqb x y) (same xs ys) e in
-    ap (λ n. n ∷ xs) (eqb-true x y two.0) ∙ ap (λ l. y ∷ l) (same_true xs ys two.1)
-
-same_refl : (xs : List ℕ) → same xs xs ≡ true
-same_refl [] = refl
-same_refl (x ∷ xs) = and_from (eqb x x) (same xs xs) (eq-eqb x x refl) (same_refl xs)
-
-pub same_eq : (xs ys : List ℕ) → xs ≡ ys → same xs ys ≡ true
-same_eq xs ys e = ap (same xs) (sym e) ∙ same_refl xs
-
-pub same_ne : (xs ys : List ℕ) → (xs ≡ ys → ⊥) → same xs ys ≡ false
-same_ne xs ys n =
-    elim (cases_Bool (same xs ys)) [ inl e ↦ absurd (n (same_true xs ys e)) | inr e ↦ e ]
-
--- looking for a name among parts of a text, one part on and at the end
-
-pub found_here : (i : ℕ) (text : List ℕ) (ss : List Span) (d : Span) (a : List ℕ) → i < length ss
-    → part text (get_or ss i d).start (get_or ss i d).end ≡ a → found_from i (cuts text (drop i ss)) a ≡ Some i
-found_here i text ss d a l e =
-    ap (λ ts. found_from i (cuts text ts) a) (drop_more ss i d l)
-    ∙ ap (λ b. cond b (Some i) (found_from (i + 1) (cuts text (drop (i + 1) ss)) a))
-    (same_eq (part text (get_or ss i d).start (get_or ss i d).end) a e)
-
-pub found_later : (i : ℕ) (text : List ℕ) (ss : List Span) (d : Span) (a : List ℕ) → i < length ss
-    → (part text (get_or ss i d).start (get_or ss i d).end ≡ a → ⊥)
-    → found_from i (cuts text (drop i ss)) a ≡ found_from (i + 1) (cuts text (drop (i + 1) ss)) a
-found_later i text ss d a l n =
-    ap (λ ts. found_from i (cuts text ts) a) (drop_more ss i d l)
-    ∙ ap (λ b. cond b (Some i) (found_from (i + 1) (cuts text (drop (i + 1) ss)) a))
-    (same_ne (part text (get_or ss i d).start (get_or ss i d).end) a n)
-
-pub found_end : (i : ℕ) (text : List ℕ) (ss : List Span) (a : List ℕ) → length ss ≤ i
-    → found_from i (cuts text (drop i ss)) a ≡ None
-found_end i text ss a l = ap (λ ts. found_from i (cuts text ts) a) (drop_all i ss l)
+-- the search of the parts of a text is the search for the first part that is the name
+pub found_position : (i : ℕ) (text : List ℕ) (ss : List Span) (a : List ℕ)
+    → position_from (λ s. same (part text s.start s.end) a) i ss ≡ found_from i (cuts text ss) a
+found_position i text [] a = refl
+found_position i text (s ∷ ss) a =
+    ap (cond (same (part text s.start s.end) a) (Some i)) (found_position (i + 1) text ss a)
 
 -- a name that is found was met, and at its place
 

@@ -1,6 +1,7 @@
 -- What a text that was read and stored, or refused, is.
-use Rattle.std.proofs.Common.{◌≡◌, ℕ, ◌≤◌, max, true, false, List, [], ◌∷◌, length, take, is_err, Ok, Err, Result, refl}
-use Rattle.std.proofs.Common.{ap, ◌∙◌, arith}
+use Rattle.std.proofs.Common.{◌≡◌, ℕ, ◌≤◌, max, true, false, List, [], ◌∷◌, length, take, is_err, Ok, Err, Result, refl, sym}
+use Rattle.std.proofs.Common.{ap, ◌∙◌, subst, arith}
+use Rattle.std.specs.Result.{MatchResult}
 use Rattle.std.proofs.lemmas.Bool.{false≢true}
 use Rattle.names.specs.Listed.{Extends}
 use Rattle.terms.specs.declared.node.Node.{Node}
@@ -16,7 +17,7 @@ use Rattle.text.specs.declared.answer.QueryText.{QueryText}
 use Rattle.text.specs.declared.fault.LimitFault.{LimitFault}
 use Rattle.text.specs.declared.fault.TextFault.{TextFault}
 use Rattle.text.specs.declared.fault.TextFault.TheVariants.{TooLong, Grammar, Limit, Head}
-use Rattle.text.specs.declared.span.Span.{Span}
+use Rattle.reader.specs.declared.span.Span.{Span}
 use Rattle.text.specs.Rules.{head_of, body_of, RuleRead, QueryRead}
 use Rattle.text.specs.Building.{Built}
 use Rattle.text.specs.Limits.{query_fits}
@@ -39,9 +40,10 @@ parsed text ops shape.Fact r = record { sentence = fact r.head; is = r.text; lea
 parsed text ops shape.Rule r = record { sentence = rule r.head r.body; is = r.text; leaves = r.builds }
 
 pub rule_read : (first : List (List ℕ)) (text : List ℕ) (s : Sentence) (ns : List (List ℕ)) (nodes : List Node)
-    (spans : List Span) (r : RuleText) → Text a_rule text s
-    → RuleStored text first (head_of s) (body_of s) ns nodes spans (Ok r) → RuleRead first text ns nodes spans (Ok r)
-rule_read first text s ns nodes spans r is h =
+    (spans : List Span) (r : Result RuleText TextFault) → Text a_rule text s → is_err r ≡ false
+    → RuleStored text first (head_of s) (body_of s) ns nodes spans r → RuleRead first text ns nodes spans r
+rule_read first text s ns nodes spans (Err f) is e h = absurd (false≢true (sym e))
+rule_read first text s ns nodes spans (Ok r) is e h =
     record {
       sentence = s;
       is = is;
@@ -55,28 +57,26 @@ rule_read first text s ns nodes spans r is h =
     }
 
 pub rule_refused : (first : List (List ℕ)) (text : List ℕ) (s : Sentence) (ns after : List (List ℕ)) (nodes : List Node)
-    (spans : List Span) (f : TextFault) → Text a_rule text s → after ≡ first
-    → RuleStored text first (head_of s) (body_of s) ns nodes spans (Err f) → RuleRead first text after nodes spans (Err f)
-rule_refused first text s ns after nodes spans TooLong is back h = absurd h
-rule_refused first text s ns after nodes spans (Grammar f) is back h = absurd h
-rule_refused first text s ns after nodes spans (Limit f) is back h =
+    (spans : List Span) (r : Result RuleText TextFault) → Text a_rule text s → after ≡ first → is_err r ≡ true
+    → RuleStored text first (head_of s) (body_of s) ns nodes spans r → RuleRead first text after nodes spans r
+rule_refused first text s ns after nodes spans (Ok t) is back e h = absurd (false≢true e)
+rule_refused first text s ns after nodes spans (Err TooLong) is back e h = absurd h
+rule_refused first text s ns after nodes spans (Err (Grammar f)) is back e h = absurd h
+rule_refused first text s ns after nodes spans (Err (Limit f)) is back e h =
     (record { sentence = s; is = is; limits = h; told = λ e. absurd (false≢true e) }, back)
-rule_refused first text s ns after nodes spans (Head f) is back h =
+rule_refused first text s ns after nodes spans (Err (Head f)) is back e h =
     (record { sentence = s; is = is; limits = h.0; told = λ e. h.1 }, back)
 
-pub query_read : (first : List (List ℕ)) (text : List ℕ) (g : Written) (ns : List (List ℕ)) (nodes : List Node)
-    (spans : List Span) (r : QueryText) → Text a_query text (query g)
-    → QueryAsked text first g ns nodes spans (Ok r) → QueryRead first text ns nodes spans (Ok r)
-query_read first text g ns nodes spans r is h =
-    record {
-      goal = g;
-      is = is;
-      fits = h.0.fits;
-      names_after = h.1;
-      goal_is = h.0.goal_is;
-      variables_are = h.0.variables_are;
-      names_are = h.2;
-    }
+-- a query passes no limit, or it is told that it does
+pub query_refused : (first : List (List ℕ)) (text : List ℕ) (g : Written) (ns after : List (List ℕ)) (nodes : List Node)
+    (spans : List Span) (q : Result QueryText LimitFault) (r : Result QueryText TextFault) → Text a_query text (query g)
+    → after ≡ first → is_err r ≡ true → MatchResult q (λ x. r ≡ Ok x) (λ f. r ≡ Err (Limit f))
+    → QueryAsked text first g ns nodes spans q → QueryRead first text after nodes spans r
+query_refused first text g ns after nodes spans (Ok t) r is back e same h =
+    absurd (false≢true (ap is_err (sym same) ∙ e))
+query_refused first text g ns after nodes spans (Err f) r is back e same h =
+    let P : Result QueryText TextFault → Type 0 = λ r. QueryRead first text after nodes spans r in
+    subst P (sym same) (record { goal = g; is = is; limits = h }, back)
 
 -- what was finished, with what was built before
 

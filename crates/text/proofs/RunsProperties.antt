@@ -43,10 +43,10 @@ joined_before ns f (t ∷ []) h = h
 joined_before ns f (t ∷ u ∷ st) h = (named_parts ns f 2 (t ∷ u ∷ st) h).before
 
 apply_before : (ns : List (List ℕ)) (text : List ℕ) (o : Op) (st : Stack) → Fits ns (apply text o st) → Fits ns st
-apply_before ns text (op.Variable a b) st h = var_before ns (part text a b) st h
-apply_before ns text (op.Integer a b) st h = int_before ns (part text a b) st h
-apply_before ns text (op.Name a b n) st h = (named_parts ns (part text a b) n st h).before
-apply_before ns text (op.Quoted a b n) st h = (named_parts ns (undouble false (part text a b)) n st h).before
+apply_before ns text (op.Variable s) st h = var_before ns (part text s.start s.end) st h
+apply_before ns text (op.Integer s) st h = int_before ns (part text s.start s.end) st h
+apply_before ns text (op.Name s n) st h = (named_parts ns (part text s.start s.end) n st h).before
+apply_before ns text (op.Quoted s n) st h = (named_parts ns (undouble false (part text s.start s.end)) n st h).before
 apply_before ns text op.EmptyList st h = (named_parts ns empty_name 0 st h).before
 apply_before ns text op.ListCell st h = joined_before ns dot_name st h
 apply_before ns text op.Conjunction st h = joined_before ns comma_name st h

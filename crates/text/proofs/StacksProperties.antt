@@ -11,7 +11,7 @@ use Rattle.reader.specs.Ops.{Stack, take_one, take_many, named}
 use Rattle.text.specs.Numbering.{met_all, numbered_all, met_stack, numbered_stack}
 use Rattle.text.specs.Limits.{small, small_all, entered_all, room_for, room_for_all, small_stack, nodes_stack}
 use Rattle.text.specs.Limits.{entered_stack, room_for_stack, stack_fits}
-use Rattle.text.proofs.NumberingProperties.{and_true}
+use Rattle.std.proofs.Math.Bool.{and-true}
 
 -- what holds of a stack and the terms taken from it holds when one more is taken
 
@@ -41,13 +41,13 @@ take_many_room ns n st =
     take_many_keeps (λ s ts. (room_for_stack ns s && room_for_all (entered_stack ns s) ts) ≡ room_for_stack ns st)
     (λ t s ts p.
     and_assoc (room_for_stack ns s) (room_for (entered_stack ns s) t) (room_for_all (entered_stack ns (t ∷ s)) ts) ∙ p)
-    n st (and_true (room_for_stack ns st))
+    n st (and-true (room_for_stack ns st))
 
 pub take_many_small : (n : ℕ) (st : Stack)
     → (small_stack (take_many n st).stack && small_all (take_many n st).terms) ≡ small_stack st
 take_many_small n st =
     take_many_keeps (λ s ts. (small_stack s && small_all ts) ≡ small_stack st)
-    (λ t s ts p. and_assoc (small_stack s) (small t) (small_all ts) ∙ p) n st (and_true (small_stack st))
+    (λ t s ts p. and_assoc (small_stack s) (small t) (small_all ts) ∙ p) n st (and-true (small_stack st))
 
 pub take_many_nodes : (n : ℕ) (st : Stack)
     → nodes_stack (take_many n st).stack + term.sizes (numbered_all (met_stack (take_many n st).stack) (take_many n st).terms)

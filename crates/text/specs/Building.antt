@@ -7,7 +7,7 @@ use Rattle.terms.specs.Rows.{all_below, meaning}
 use Rattle.terms.specs.Term.{Term}
 use Rattle.reader.specs.Ops.{Stack, part}
 use Rattle.text.specs.declared.fault.LimitFault.{LimitFault}
-use Rattle.text.specs.declared.span.Span.{Span}
+use Rattle.reader.specs.declared.span.Span.{Span}
 use Rattle.text.specs.Numbering.{Met, number_of, meets, met_stack, numbered_stack}
 use Rattle.text.specs.Limits.{entered_stack, nodes_stack, stack_fits}
 

@@ -19,7 +19,7 @@ use Rattle.text.specs.declared.fault.LimitFault.{LimitFault}
 use Rattle.text.specs.declared.fault.TextFault.{TextFault}
 use Rattle.text.specs.declared.fault.TextFault.TheVariants.{TooLong, Grammar, Limit, Head}
 use Rattle.text.specs.Numbering.{met, numbered}
-use Rattle.text.specs.declared.span.Span.{Span}
+use Rattle.reader.specs.declared.span.Span.{Span}
 use Rattle.text.specs.Limits.{entered, rule_fits, query_fits}
 use Rattle.text.specs.Building.{cuts}
 use Rattle.text.specs.Builders.{BuiltIn, Outcome}

@@ -1,6 +1,6 @@
 -- The variables of the text that a reader read last.
 use Rattle.std.specs.Prelude.{List, vec_items}
-use Rattle.text.specs.declared.span.Span.{Span}
+use Rattle.reader.specs.declared.span.Span.{Span}
 use Rattle.text.specs.declared.text_reader.TextReader.{TextReader}
 
 abbrev pub reader_spans : TextReader → List Span

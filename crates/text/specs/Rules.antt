@@ -14,7 +14,7 @@ use Rattle.text.specs.declared.fault.HeadFault.{HeadFault}
 use Rattle.text.specs.declared.fault.HeadFault.TheVariants.{VariableHead, IntegerHead, BuiltInHead, IntegerBody}
 use Rattle.text.specs.declared.fault.TextFault.{TextFault}
 use Rattle.text.specs.declared.fault.TextFault.TheVariants.{TooLong, Grammar, Limit, Head}
-use Rattle.text.specs.declared.span.Span.{Span}
+use Rattle.reader.specs.declared.span.Span.{Span}
 use Rattle.text.specs.declared.answer.RuleText.{RuleText}
 use Rattle.text.specs.declared.answer.QueryText.{QueryText}
 use Rattle.text.specs.Numbering.{met, numbered}

@@ -3,15 +3,15 @@
 ghost use Rattle.std.specs.Prelude.{◌≡◌, ◌≤◌, length, vec_len, vec_capacity};
 ghost use Rattle.terms.specs.RowViews.{row_nodes, row_limit};
 
-use crate::span::Span;
+use reader::span::Span;
 use terms::Row;
 
 mod build;
 mod make;
 mod steps;
 
-// The nodes so far, the places of the terms that are not yet part of another, and the variables in the order
-// in which they were met.
+/// The nodes so far, the places of the terms that are not yet part of another, and the variables in the order
+/// in which they were met.
 #[derive(Drop)]
 pub struct Builder {
     row: Row,

@@ -8,9 +8,9 @@ pub mod fault;
 mod finish;
 mod integer;
 mod name;
-pub mod span;
 pub mod text_reader;
 mod variables;
 
 pub use fault::{HeadFault, LimitFault, TextFault};
+pub use reader::span;
 pub use text_reader::TextReader;

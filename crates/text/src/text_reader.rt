@@ -7,10 +7,10 @@ use reader::op::Op;
 
 mod read;
 
-// No text is longer than a line.
+/// No text is longer than a line.
 pub const MAX_TEXT: usize = 1024;
 
-// The memory that reading needs, reserved when the reader is made.
+/// The memory that reading needs, reserved when the reader is made.
 #[derive(Drop)]
 pub struct TextReader {
     ops: Vec<Op>,

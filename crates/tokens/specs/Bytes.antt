@@ -1,5 +1,6 @@
 -- Kinds of bytes: what kind of token a byte begins, and which bytes go on in a run.
 use Rattle.std.specs.Prelude.{ℕ, Bool, true, false, cond, ◌&&◌, ◌||◌, List, [], ◌∷◌, ◌==◌, nat_le}
+use Rattle.std.specs.Str.{bytes_eq}
 use Rattle.tokens.specs.declared.kind.Kind.{Kind}
 use Rattle.tokens.specs.declared.kind.Kind.TheVariants.{Small, Capital, Digit, Symbol, Solo, Quote, Opening, Closing}
 use Rattle.tokens.specs.declared.kind.Kind.TheVariants.{Left, Right, Bar, Comma, Stop, Space, Stray}
@@ -64,10 +65,7 @@ past f [] = []
 past f (c ∷ s) = cond (f c) (past f s) (c ∷ s)
 
 abbrev pub same : List ℕ → List ℕ → Bool
-same [] [] = true
-same [] (y ∷ ys) = false
-same (x ∷ xs) [] = false
-same (x ∷ xs) (y ∷ ys) = x == y && same xs ys
+same = bytes_eq
 
 -- xs is a front of ys
 abbrev pub begins : List ℕ → List ℕ → Bool

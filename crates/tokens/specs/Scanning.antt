@@ -1,9 +1,8 @@
 -- What the code that finds tokens answers, by the definition of tokens.
 use Rattle.std.specs.Prelude.{◌≡◌, ℕ, ◌+◌, ◌-◌, ◌<◌, ◌≤◌, Bool, true, false, cond, List, [], ◌∷◌, length, take, drop}
-use Rattle.std.specs.Prelude.{Ok, Err, Result}
+use Rattle.std.specs.Prelude.{Ok, Err, Result, Some, None, Option}
 use Rattle.tokens.specs.declared.kind.Kind.{Kind}
-use Rattle.tokens.specs.declared.kind.Kind.TheVariants.{Small, Capital, Digit, Symbol, Solo, Quote, Opening, Closing}
-use Rattle.tokens.specs.declared.kind.Kind.TheVariants.{Left, Right, Bar, Comma, Stop, Space, Stray}
+use Rattle.tokens.specs.declared.kind.Kind.TheVariants.{Stray}
 use Rattle.tokens.specs.declared.scan.Token.{Token}
 use Rattle.tokens.specs.declared.scan.Token.TheVariants as code
 use Rattle.tokens.specs.declared.scan.Found.{Found}
@@ -21,33 +20,10 @@ abbrev pub digit_at : List ℕ → Bool
 digit_at [] = false
 digit_at (c ∷ s) = digit c
 
-abbrev pub quote_at : List ℕ → Bool
-quote_at [] = false
-quote_at (c ∷ s) = quote c
-
--- the kinds that begin a run of letters or digits
-pub data RunKind : Kind → Type 0 where
-  small_begins : RunKind Small
-  capital_begins : RunKind Capital
-  digit_begins : RunKind Digit
-
 -- a byte of any kind but Stray stands inside the line
 abbrev pub Inside : Kind → ℕ → List ℕ → Type 0
-Inside Small i s = i < length s
-Inside Capital i s = i < length s
-Inside Digit i s = i < length s
-Inside Symbol i s = i < length s
-Inside Solo i s = i < length s
-Inside Quote i s = i < length s
-Inside Opening i s = i < length s
-Inside Closing i s = i < length s
-Inside Left i s = i < length s
-Inside Right i s = i < length s
-Inside Bar i s = i < length s
-Inside Comma i s = i < length s
-Inside Stop i s = i < length s
-Inside Space i s = i < length s
 Inside Stray i s = Unit {0}
+Inside _ i s = i < length s
 
 -- the bytes of a quoted name, each doubled quote as one; true behind the first of two quotes
 abbrev pub undouble : Bool → List ℕ → List ℕ
@@ -73,19 +49,8 @@ scan_of code.End r = spec.nothing
 
 -- the end of the line has no bytes left; every other token has some
 abbrev pub Length : Token → ℕ → ℕ → ℕ → Type 0
-Length (code.Name s) a b n = a < b
-Length (code.Quoted s) a b n = a < b
-Length (code.Variable s) a b n = a < b
-Length (code.Integer s) a b n = a < b
-Length code.Neck a b n = a < b
-Length code.Opening a b n = a < b
-Length code.Closing a b n = a < b
-Length code.Left a b n = a < b
-Length code.Right a b n = a < b
-Length code.Bar a b n = a < b
-Length code.Comma a b n = a < b
-Length code.Stop a b n = a < b
 Length code.End a b n = (a ≡ n) × (b ≡ n)
+Length _ a b n = a < b
 
 -- the bytes behind the spaces at a place
 abbrev pub from : List ℕ → ℕ → List ℕ
@@ -97,22 +62,18 @@ Holds line (code.Name s) a b = s.now ≡ take (b - a) (drop a line)
 Holds line (code.Quoted s) a b = (a + 2 ≤ b) × (s.now ≡ take (b - 1 - (a + 1)) (drop (a + 1) line))
 Holds line (code.Variable s) a b = s.now ≡ take (b - a) (drop a line)
 Holds line (code.Integer s) a b = s.now ≡ take (b - a) (drop a line)
-Holds line code.Neck a b = Unit {0}
-Holds line code.Opening a b = Unit {0}
-Holds line code.Closing a b = Unit {0}
-Holds line code.Left a b = Unit {0}
-Holds line code.Right a b = Unit {0}
-Holds line code.Bar a b = Unit {0}
-Holds line code.Comma a b = Unit {0}
-Holds line code.Stop a b = Unit {0}
-Holds line code.End a b = Unit {0}
+Holds line _ a b = Unit {0}
+
+-- the token that stands from a to b
+pub record StandsAt (line : List ℕ) (t : Token) (a b : ℕ) : Type 0 where
+  pub is : spec.scan spec.spaced (drop a line) ≡ scan_of t (drop b line)
+  pub holds : Holds line t a b
+  pub long : Length t a b (length line)
+  pub within : b ≤ length line
 
 -- the token that stands at its start
-pub record Stands (line : List ℕ) (f : Found) : Type 0 where
-  pub is : spec.scan spec.spaced (drop f.start line) ≡ scan_of f.token (drop f.end line)
-  pub holds : Holds line f.token f.start f.end
-  pub long : Length f.token f.start f.end (length line)
-  pub within : f.end ≤ length line
+abbrev pub Stands : List ℕ → Found → Type 0
+Stands line f = StandsAt line f.token f.start f.end
 
 -- the answer for a token that begins at a place
 abbrev pub StartsAs : List ℕ → ℕ → Result Found TokenFault → Type 0
@@ -128,12 +89,10 @@ TokenRead line pos (Err (fault.Stray p)) =
     (drop p line ≡ from line pos) × (pos ≤ p) × (p < length line) × (head_kind (drop p line) ≡ Stray)
 TokenRead line pos (Err (fault.Unclosed p)) = (p ≡ length line) × (spec.scan spec.spaced (from line pos) ≡ spec.endless)
 
--- behind the quote that closes a name whose inside begins at a place, and its bytes
-abbrev pub QuoteRead : List ℕ → ℕ → Result ℕ TokenFault → Type 0
-QuoteRead line pos (Ok e) =
+-- behind the quote that closes the name whose inside begins at a place, if one closes it, and its bytes
+abbrev pub QuoteRead : List ℕ → ℕ → Option ℕ → Type 0
+QuoteRead line pos (Some e) =
     (pos < e) × (e ≤ length line)
     × (spec.scan_from (spec.inside []) (drop pos line)
     ≡ spec.got (spec.name (undouble false (take (e - 1 - pos) (drop pos line)))) (drop e line))
-QuoteRead line pos (Err (fault.Stray p)) = ⊥
-QuoteRead line pos (Err (fault.Unclosed p)) =
-    (p ≡ length line) × (spec.scan_from (spec.inside []) (drop pos line) ≡ spec.endless)
+QuoteRead line pos None = spec.scan_from (spec.inside []) (drop pos line) ≡ spec.endless

@@ -19,7 +19,8 @@ pub data Token : Type 0 where
   comma : Token
   stop : Token
 
--- What has been read of a token: a run of bytes, a quoted name (open, or behind a quote that closes it unless one more follows), or all of it.
+-- What has been read of a token: a run of bytes, a quoted name (open, or behind a quote that closes it unless one more
+-- follows), or all of it.
 pub data Part : Type 0 where
   small_run : List ℕ → Part
   capital_run : List ℕ → Part

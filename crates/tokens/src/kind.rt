@@ -3,8 +3,8 @@
 ghost use Rattle.std.specs.Prelude.{◌≡◌};
 ghost use Rattle.tokens.specs.Bytes.{class, in_run, word, digit, symbol};
 
-// The first byte of a token decides what kind of token it is.
-#[derive(Clone, Copy)]
+/// The first byte of a token decides what kind of token it is.
+#[derive(Clone, Copy, Debug, PartialEq, Eq)]
 pub enum Kind {
     Small,
     Capital,
@@ -23,8 +23,9 @@ pub enum Kind {
     Stray,
 }
 
-// Bytes that go on in one token, or in one gap between tokens.
-#[derive(Clone, Copy)]
+/// Bytes that go on in one token, or in one gap between tokens.
+/// An enum is plainer here than a closure, since the contract of `run_end` names the test.
+#[derive(Clone, Copy, Debug, PartialEq, Eq)]
 pub enum Run {
     Word,
     Digits,
@@ -68,26 +69,20 @@ pub fn in_run(run: Run, b: u8) -> bool
 fn is_word(b: u8) -> bool
     ensures { result ≡ word b }
 {
-    match b as char {
-        'a'..='z' | 'A'..='Z' | '_' | '0'..='9' => true,
-        _ => false,
-    }
+    matches!(b as char, 'a'..='z' | 'A'..='Z' | '_' | '0'..='9')
 }
 
 fn is_digit(b: u8) -> bool
     ensures { result ≡ digit b }
 {
-    match b as char {
-        '0'..='9' => true,
-        _ => false,
-    }
+    matches!(b as char, '0'..='9')
 }
 
 fn is_symbol(b: u8) -> bool
     ensures { result ≡ symbol b }
 {
-    match b as char {
-        '+' | '-' | '*' | '/' | '\\' | '<' | '=' | '>' | ':' => true,
-        _ => false,
-    }
+    matches!(
+        b as char,
+        '+' | '-' | '*' | '/' | '\\' | '<' | '=' | '>' | ':'
+    )
 }

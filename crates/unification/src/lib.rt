@@ -4,23 +4,17 @@
 
 ghost use Rattle.unification.specs.Theorem.{Lawful, Usable, Canonical};
 
-// The bindings found make both terms the same, and every unifier agrees with them; where none is found there is none.
-pub fn unification_is_most_general() -> u8
+/// The bindings found make both terms the same, and every unifier agrees with them; where none is found there is none.
+pub fn unification_is_most_general()
     ensures { Lawful }
-{
-    0
-}
+{}
 
-// Under earlier bindings: they stay well-formed, and follow from what was asked.
-pub fn bindings_carry_on() -> u8
+/// Under earlier bindings: they stay well-formed, and follow from what was asked.
+pub fn bindings_carry_on()
     ensures { Usable }
-{
-    0
-}
+{}
 
-// Terms that differ in the numbers of variables alone have one copy.
-pub fn copies_are_canonical() -> u8
+/// Terms that differ in the numbers of variables alone have one copy.
+pub fn copies_are_canonical()
     ensures { Canonical }
-{
-    0
-}
+{}

@@ -2,9 +2,7 @@
 
 ghost use Rattle.worked.specs.Table.{Worked};
 
-// Each row of the table by computing: the steps tell what it says, and the search tree holds it.
-pub fn worked_examples() -> u8
+/// Each row of the table by computing: the steps tell what it says, and the search tree holds it.
+pub fn worked_examples()
     ensures { Worked }
-{
-    0
-}
+{}

@@ -13,12 +13,6 @@ use Rattle.writer.specs.declared.piece.Form.{Form}
 use Rattle.writer.specs.declared.piece.Form.TheVariants.{Constant, Empty, List as AList, Conjunction, Plain}
 use Rattle.writer.specs.Pieces.{spot_of, form_of, others_spot, opening_text, closing_text, spot_before, spot_after}
 
-pub placed_parts : (p : Spot) (s : List ℕ) → (spot_before p ++ s) ++ spot_after p ≡ placed (spot_of p) s
-placed_parts Alone s = append-nil s
-placed_parts Argument s = append-nil (44 ∷ s)
-placed_parts InList s = refl
-placed_parts InConjunction s = refl
-
 -- the text of a form with arguments s
 abbrev parts : Spot → Form → List ℕ → List ℕ → List ℕ
 parts p k f s = (opening_text p k f ++ s) ++ closing_text p k
@@ -92,3 +86,10 @@ app_parts p f (written.cons t (written.cons u (written.cons v vs))) n e =
     ap (λ k. parts_as p k f (written.cons t (written.cons u (written.cons v vs))))
     (plain_form f n (λ z. omega arith) (λ z. omega arith))
     ∙ sym (plain_parts p f (arguments_text writing.argument (written.cons t (written.cons u (written.cons v vs)))))
+
+-- a sign and digits between what the spot asks for
+pub number_parts : (p : Spot) (s t : List ℕ) → ((spot_before p ++ s) ++ t) ++ spot_after p ≡ placed (spot_of p) (s ++ t)
+number_parts Alone s t = append-nil (s ++ t)
+number_parts Argument s t = append-nil (44 ∷ (s ++ t))
+number_parts InList s t = simp append_assoc
+number_parts InConjunction s t = simp append_assoc

@@ -1,11 +1,11 @@
 -- Writing one text and then another, and failing in between.
-use Rattle.std.proofs.Common.{◌≡◌, ℕ, ◌+◌, ◌<◌, ◌≤◌, true, false, List, [], ◌∷◌, ◌++◌, length, take, is_err, Ok, Err}
-use Rattle.std.proofs.Common.{vec_len, Result, sym, refl, ap, ◌∙◌, subst, append_assoc, append-nil, arith}
-use Rattle.std.proofs.lemmas.List.{length-append, length-take, take_all, take_at, take-take}
-use Rattle.std.proofs.lemmas.Bool.{leb-false, le-leb, lt-leb, false≢true}
+use Rattle.std.proofs.Common.{◌≡◌, ℕ, ◌≤◌, true, List, ◌++◌, length, take, is_err, Ok, Err}
+use Rattle.std.proofs.Common.{Result, sym, ap, ◌∙◌, subst, append_assoc, arith}
+use Rattle.std.proofs.lemmas.List.{length-append, length-take, take-take}
+use Rattle.std.proofs.lemmas.Bool.{false≢true}
 use Rattle.writer.specs.declared.fault.DoesNotFit.{DoesNotFit}
 use Rattle.writer.specs.declared.line.LineWriter.{LineWriter}
-use Rattle.writer.specs.Lines.{line_bytes, line_seen, line_limit, fits, Told, Put, Puts, PutsBytes, TextAdded}
+use Rattle.writer.specs.Lines.{line_bytes, line_seen, line_limit, Told, Put, Puts}
 
 front_le : (xs ys : List ℕ) → take (length xs) ys ≡ xs → length xs ≤ length ys
 front_le xs ys e = omega (arith, length-take (length xs) ys, ap length e)
@@ -58,12 +58,6 @@ puts_longer more news (Err c) e l p =
       put = record { kept = p.put.kept; held = p.put.held; told = omega arith };
     }
 
-pub puts_fails : {a b : LineWriter} {text firsts : List ℕ} {d : DoesNotFit} (more news : List ℕ)
-    (r : Result (Unit {0}) DoesNotFit) → is_err r ≡ true → Puts a b text firsts (Err d) → Puts a b (text ++ more) news r
-puts_fails {text = text} more news r e p =
-    let l : length text ≤ length (text ++ more) = omega (arith, length-append text more) in
-    puts_longer (text ++ more) news r e l p
-
 -- one text after another, with no variable in the second
 pub puts_next : {a b c : LineWriter} {text firsts more : List ℕ} {u : Unit {0}} {r : Result (Unit {0}) DoesNotFit}
     → Puts a b text firsts (Ok u) → Puts b c more (line_seen b) r → Puts a c (text ++ more) firsts r
@@ -74,78 +68,3 @@ pub puts_same : {a b : LineWriter} {text firsts more news : List ℕ} {r : Resul
     → text ≡ more → firsts ≡ news → Puts a b text firsts r → Puts a b more news r
 puts_same {a} {b} {text} {firsts} {more} {news} {r} e d p =
     subst (λ (s : List ℕ). Puts a b s news r) e (subst (λ (s : List ℕ). Puts a b text s r) d p)
-
-pub puts_none : (a : LineWriter) (u : Unit {0}) → Puts a a [] (line_seen a) (Ok u)
-puts_none a u =
-    record {
-      limit = refl;
-      put = record {
-        kept = take_all (length (line_bytes a)) (line_bytes a) (omega arith);
-        held = take_all (length (line_seen a)) (line_seen a) (omega arith);
-        told = (sym (append-nil (line_bytes a)), refl);
-      };
-    }
-
--- all or nothing of a text is a part of what is written
-pub puts_whole : (a b : LineWriter) (text : List ℕ) (r : Result (Unit {0}) DoesNotFit) → TextAdded a b text r
-    → PutsBytes a b text r
-puts_whole a b text (Ok u) all =
-    record {
-      limit = all.limit;
-      put = record {
-        kept = ap (take (length (line_bytes a))) all.bytes ∙ take_at (line_bytes a) text (length (line_bytes a)) refl;
-        held = ap (take (length (line_seen a))) all.seen ∙ take_all (length (line_seen a)) (line_seen a) (omega arith);
-        told = (all.bytes, all.seen);
-      };
-    }
-puts_whole a b text (Err d) all =
-    record {
-      limit = all.limit;
-      put = record {
-        kept = ap (take (length (line_bytes a))) all.bytes
-            ∙ take_all (length (line_bytes a)) (line_bytes a) (omega arith);
-        held = ap (take (length (line_seen a))) all.seen ∙ take_all (length (line_seen a)) (line_seen a) (omega arith);
-        told = leb-false (length (line_bytes a) + length text) (line_limit a) (sym all.value);
-      };
-    }
-
--- what was written fits
-pub puts_ok : {a b : LineWriter} {text firsts : List ℕ} {u : Unit {0}} → Puts a b text firsts (Ok u)
-    → true ≡ fits a text
-puts_ok {a} {b} {text} p =
-    let e = ap length p.put.told.0 ∙ length-append (line_bytes a) text in
-    let few = b.few in
-    let all = b.bytes.ok.0 in
-    let same = p.limit in
-    sym (le-leb (length (line_bytes a) + length text) (line_limit a) (omega arith))
-
-pub puts_err : {a b : LineWriter} {text firsts : List ℕ} {d : DoesNotFit} → Puts a b text firsts (Err d)
-    → false ≡ fits a text
-puts_err {a} {b} {text} p = sym (lt-leb (length (line_bytes a) + length text) (line_limit a) p.put.told)
-
--- behind a text of at least one byte there is room for one more variable
-pub puts_room : {a b : LineWriter} {text : List ℕ} {u : Unit {0}} (x : ℕ) → Puts a b (x ∷ text) (line_seen a) (Ok u)
-    → vec_len b.seen < vec_len b.bytes
-puts_room {a} {b} {text} x p =
-    let long = ap length p.put.told.0 ∙ length-append (line_bytes a) (x ∷ text) in
-    let same = ap length p.put.told.1 in
-    let fewer = a.fewer in
-    let bytes = a.bytes.ok.0 in
-    let seen = a.seen.ok.0 in
-    let more = b.bytes.ok.0 in
-    let known = b.seen.ok.0 in
-    omega arith
-
--- the variables seen may grow behind a text
-pub puts_seen : {a b c : LineWriter} {text : List ℕ} {u : Unit {0}} (more : List ℕ)
-    → Puts a b text (line_seen a) (Ok u) → line_limit c ≡ line_limit b → line_bytes c ≡ line_bytes b → line_seen c ≡ line_seen a ++ more
-    → Puts a c text (line_seen a ++ more) (Ok u)
-puts_seen {a} {b} {c} {text} {u} more p limit bytes seen =
-    record {
-      limit = limit ∙ p.limit;
-      put = record {
-        kept = ap (take (length (line_bytes a))) bytes ∙ p.put.kept;
-        held = ap (take (length (line_seen a))) seen ∙ take_at (line_seen a) more (length (line_seen a)) refl;
-        told = (bytes ∙ p.put.told.0, seen);
-      };
-    }

@@ -1,32 +1,35 @@
 -- Places of variables, and that more variables behind them leave a term as it is written.
 use Rattle.std.proofs.Common.{◌≡◌, ℕ, suc, ◌+◌, ◌<◌, ◌≤◌, Bool, true, false, cond, eqb, ltb, List, [], ◌∷◌, ◌++◌}
-use Rattle.std.proofs.Common.{length, get_or, drop, ℤ, pos, negsuc, nat_abs, sym, refl, ap, ◌∙◌, inl, inr, append_assoc}
+use Rattle.std.proofs.Common.{length, sym, refl, ap, ◌∙◌, inl, inr, append_assoc}
 use Rattle.std.proofs.Common.{append-nil, arith}
-use lib.Signed.{le_z}
-use Rattle.std.proofs.lemmas.List.{at_drop_more, at_drop_all}
-use Rattle.std.proofs.lemmas.Bool.{cases_Bool, eq-eqb, ne_eqb, ltb-true, ltb-false, lt-ltb, le-ltb, leb-false}
+use Rattle.std.proofs.Common.{Some, None, Option, not, ◌==◌}
+use Rattle.std.specs.Option.{unwrap_or}
+use Rattle.std.specs.List.{position, position_or_len}
+use Rattle.std.proofs.lemmas.List.Recursion.{is_position_or_len}
+use Rattle.std.proofs.lemmas.List.Sums.{prefix_len-le-length}
+use Rattle.std.proofs.lemmas.Bool.{cases_Bool, eq-eqb, ltb-true, ltb-false}
 use Rattle.terms.specs.Term.{Term, Terms, var, int, app, nil, cons}
 use Rattle.grammar.specs.Written as written
 use Rattle.writing.specs.Writing.{text}
 use Rattle.writer.specs.Shown.{place_in, with_variable, firsts, firsts_all, as_written, all_as_written, shown}
-use Rattle.writer.specs.Shown.{integer_text, decimal}
+use Rattle.writer.specs.Shown.{decimal}
 use Rattle.writer.specs.Numbered.{numbered, all_numbered}
 
-pub place_in_goes : (xs : List ℕ) (v i : ℕ) → i < length xs → (get_or xs i 0 ≡ v → ⊥)
-    → (i + 1) + place_in (drop (i + 1) xs) v ≡ i + place_in (drop i xs) v
-place_in_goes xs v i l ne =
-    let e : place_in (drop i xs) v ≡ cond (eqb (get_or xs i 0) v) 0 (suc (place_in (drop (i + 1) xs) v)) =
-    at_drop_more (λ ys. place_in ys v) xs i 0 l in
-    let d = e ∙ ap (λ b. cond b 0 (suc (place_in (drop (i + 1) xs) v))) (ne_eqb (get_or xs i 0) v ne) in
-    omega arith
-
-pub place_in_stops : (xs : List ℕ) (v i : ℕ) → i < length xs → get_or xs i 0 ≡ v → place_in (drop i xs) v ≡ 0
-place_in_stops xs v i l same =
-    at_drop_more (λ ys. place_in ys v) xs i 0 l
-    ∙ ap (λ b. cond b 0 (suc (place_in (drop (i + 1) xs) v))) (eq-eqb (get_or xs i 0) v same)
-
-pub place_in_end : (xs : List ℕ) (v i : ℕ) → length xs ≤ i → place_in (drop i xs) v ≡ 0
-place_in_end xs v i l = at_drop_all (λ ys. place_in ys v) xs i l
+-- the place of the first that is the variable, or their number where none is
+pub place_found : (xs : List ℕ) (v : ℕ) (r : Option ℕ) → r ≡ position (λ x. x == v) xs
+    → unwrap_or r (length xs) ≡ place_in xs v
+place_found xs v r e =
+    let n = position_or_len (λ x. x == v) xs in
+    let same : place_in xs v ≡ n = is_position_or_len (λ ys. place_in ys v) (λ x. x == v) refl step xs in
+    let l : n ≤ length xs = prefix_len-le-length (λ x. not (x == v)) xs in
+    elim (cases_Bool (ltb n (length xs))) [
+      | inl t ↦ ap (λ o. unwrap_or o (length xs)) (e ∙ ap (λ b. cond b (Some n) None) t) ∙ sym same
+      | inr f ↦ (let most = ltb-false n (length xs) f in
+          ap (λ o. unwrap_or o (length xs)) (e ∙ ap (λ b. cond b (Some n) None) f) ∙ omega arith)
+    ]
+  where
+    step : (x : ℕ) (ys : List ℕ) → place_in (x ∷ ys) v ≡ cond (x == v) 0 (1 + place_in ys v)
+    step x ys = let e : suc (place_in ys v) ≡ 1 + place_in ys v = omega arith in ap (λ n. cond (x == v) 0 n) e
 
 -- a variable that was seen keeps its place
 place_in_held : (xs ys : List ℕ) (v : ℕ) → place_in xs v < length xs → place_in (xs ++ ys) v ≡ place_in xs v
@@ -117,13 +120,3 @@ shown_before xs t u =
     let l = firsts_longer (firsts xs t) u in
     sym (numbered_shown xs t)
     ∙ ap text (numbered_seen xs t l.more ∙ ap (λ s. as_written s t) (sym l.is))
-
-pub with_variable_new : (xs : List ℕ) (v : ℕ) → length xs ≤ place_in xs v → xs ++ v ∷ [] ≡ with_variable xs v
-with_variable_new xs v l = ap (λ b. cond b xs (xs ++ v ∷ [])) (sym (le-ltb (place_in xs v) (length xs) l))
-
-pub with_variable_held : (xs : List ℕ) (v : ℕ) → place_in xs v < length xs → xs ≡ with_variable xs v
-with_variable_held xs v l = ap (λ b. cond b xs (xs ++ v ∷ [])) (sym (lt-ltb (place_in xs v) (length xs) l))
-
-pub integer_text_minus : (i : ℤ) (n : ℕ) → n ≡ nat_abs i → le_z (pos 0) i ≡ false → 45 ∷ decimal n ≡ integer_text i
-integer_text_minus (pos m) n e l = absurd (omega (arith, leb-false 0 m l))
-integer_text_minus (negsuc m) n e l = ap (λ k. 45 ∷ decimal k) e

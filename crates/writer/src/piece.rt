@@ -1,12 +1,11 @@
 //! The fixed bytes around a term and its arguments.
 
 ghost use Rattle.std.specs.Prelude.{◌≡◌, length};
-ghost use Rattle.tokens.specs.Bytes.{same};
 ghost use Rattle.writer.specs.Pieces.{argument_spot, spot_before, spot_after, form_of, stays_open, end_text};
 
-// Where a term is written: by itself or first in its brackets, as an argument behind another,
-// as the tail of an open list, as the right side of an open conjunction.
-#[derive(Clone, Copy)]
+/// Where a term is written: by itself or first in its brackets, as an argument behind another,
+/// as the tail of an open list, as the right side of an open conjunction.
+#[derive(Clone, Copy, Debug, PartialEq, Eq)]
 pub enum Spot {
     Alone,
     Argument,
@@ -14,8 +13,8 @@ pub enum Spot {
     InConjunction,
 }
 
-// What a name with its arguments is written as.
-#[derive(Clone, Copy)]
+/// What a name with its arguments is written as.
+#[derive(Clone, Copy, Debug, PartialEq, Eq)]
 pub enum Form {
     Constant,
     Empty,
@@ -24,36 +23,21 @@ pub enum Form {
     Plain,
 }
 
-pub fn is_name(name: &[u8], text: &[u8]) -> bool
-    ensures { result ≡ same name.now text.now }
-{
-    name == text
-}
-
-// What a name with these arguments is written as.
+/// What a name with these arguments is written as.
+#[tactic(auto, using(crate::proofs::RunProperties::same_of_lengths))]
 pub fn form_of(name: &[u8], args: &[u32]) -> Form
     ensures { result ≡ form_of name.now (length args.now) }
 {
-    if args.len() == 0 {
-        if is_name(name, b"[]") {
-            Form::Empty
-        } else {
-            Form::Constant
-        }
-    } else if args.len() == 2 {
-        if is_name(name, b".") {
-            Form::List
-        } else if is_name(name, b",") {
-            Form::Conjunction
-        } else {
-            Form::Plain
-        }
-    } else {
-        Form::Plain
+    match (args.len(), name) {
+        (0, b"[]") => Form::Empty,
+        (0, _) => Form::Constant,
+        (2, b".") => Form::List,
+        (2, b",") => Form::Conjunction,
+        _ => Form::Plain,
     }
 }
 
-// Where the argument with the number k is written.
+/// Where the argument with the number k is written.
 pub fn argument_spot(form: Form, k: usize) -> Spot
     ensures { result ≡ argument_spot form k }
 {
@@ -67,19 +51,17 @@ pub fn argument_spot(form: Form, k: usize) -> Spot
     }
 }
 
-// Whether a tail goes on with the open list, or a right side with the open conjunction.
+/// Whether a tail goes on with the open list, or a right side with the open conjunction.
 pub fn goes_on(spot: Spot, form: Form) -> bool
     ensures { result ≡ stays_open spot form }
 {
-    match (spot, form) {
-        (Spot::InList, Form::Empty) => true,
-        (Spot::InList, Form::List) => true,
-        (Spot::InConjunction, Form::Conjunction) => true,
-        _ => false,
-    }
+    matches!(
+        (spot, form),
+        (Spot::InList, Form::Empty | Form::List) | (Spot::InConjunction, Form::Conjunction)
+    )
 }
 
-// What stands between the place and a term that does not go on with what is open.
+/// What stands between the place and a term that does not go on with what is open.
 pub fn before(spot: Spot) -> &'static [u8]
     ensures { result.now ≡ spot_before spot }
 {
@@ -90,7 +72,7 @@ pub fn before(spot: Spot) -> &'static [u8]
     }
 }
 
-// What closes the brackets of the arguments, where the last argument does not.
+/// What closes the brackets of the arguments, where the last argument does not.
 pub fn end(form: Form) -> &'static [u8]
     ensures { result.now ≡ end_text form }
 {
@@ -100,7 +82,7 @@ pub fn end(form: Form) -> &'static [u8]
     }
 }
 
-// What closes the open list or conjunction behind it.
+/// What closes the open list or conjunction behind it.
 pub fn after(spot: Spot) -> &'static [u8]
     ensures { result.now ≡ spot_after spot }
 {

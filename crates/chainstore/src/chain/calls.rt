@@ -1,16 +1,16 @@
 //! The calls of a rule store.
 
-ghost use Rattle.std.specs.Prelude.{◌≡◌, ◌+◌, ◌<◌, ◌≤◌, length, take, drop};
+ghost use Rattle.std.specs.Prelude.{◌≡◌, ◌<◌, length};
 ghost use Rattle.rules.specs.Meaning.{holds};
-ghost use Rattle.chainstore.specs.Entries.{is_live_of, row_of};
-ghost use Rattle.chainstore.specs.Rings.{after_at, label_of};
-ghost use Rattle.chainstore.specs.Views.{meaning_of, entries_of, links_of};
+ghost use Rattle.rules.specs.Calls.{Adds, value_of};
+ghost use Rattle.chainstore.specs.Rows.{row_of};
+ghost use Rattle.chainstore.specs.Rings.{after_at, label_of, end_of};
+ghost use Rattle.chainstore.specs.Views.{meaning_of, links_of};
 
 use crate::chain::ChainStore;
-use crate::entry::{Entry, Side};
-use crate::links::{HEADS, bridge, head_of, label_of};
-use rules::{Full, Indicator, Rule, RuleStore, Stored};
-use terms::Node;
+use crate::note::{Note, Side};
+use crate::rings::{HEADS, head_of, label_of};
+use rules::{Full, Indicator, Rule, RuleStore};
 
 impl RuleStore for ChainStore {
     ghost meaning = { meaning_of };
@@ -26,38 +26,31 @@ impl RuleStore for ChainStore {
     fn next(&self, indicator: Indicator, after: Option<u32>) -> Option<u32> {
         match after {
             None => self.label_after(head_of(indicator)),
-            Some(label) => {
-                if self.is_live(label, indicator) {
-                    self.label_after(HEADS as u32 + label)
-                } else {
-                    None
-                }
+            Some(label) if self.is_live(label, indicator) => {
+                self.label_after(HEADS as u32 + label)
             }
+            Some(_) => None,
         }
     }
 
-    fn read(&self, label: u32) -> Option<Stored<'_>> {
-        if label as usize >= self.entries.len() {
-            return None;
-        }
-        let entry = self.entries[label as usize];
-        Some(Stored {
-            nodes: part(self.nodes.as_slice(), entry.start, entry.length),
-            head: entry.head,
-            body: entry.body,
-            variables: entry.variables,
-            name: entry.indicator.name(),
-            arity: entry.indicator.arity(),
-        })
+    fn read(&self, label: u32) -> Option<Rule<'_>> {
+        self.table.read(label)
     }
 
     fn erase(&mut self, label: u32) {
-        if label as usize >= self.entries.len() || !self.entries[label as usize].live {
+        let Some(note) = self.table.note(label) else {
             return;
+        };
+        if note.live {
+            self.rings.remove(HEADS as u32 + label);
+            self.table.set_note(
+                label,
+                Note {
+                    live: false,
+                    ..note
+                },
+            );
         }
-        let link = self.links[HEADS + label as usize];
-        bridge(&mut self.links, link.before, link.after);
-        self.entries[label as usize].live = false;
     }
 
     fn is_known(&self, indicator: Indicator) -> bool {
@@ -66,41 +59,30 @@ impl RuleStore for ChainStore {
 }
 
 impl ChainStore {
+    // Adds the rule at one end of its row. Full, changing nothing, if it has no room.
+    fn add(&mut self, rule: Rule<'_>, side: Side) -> Result<u32, Full>
+        ensures { Adds (end_of side) (meaning_of self.old) (value_of rule.entry) result
+            (meaning_of self.new) }
+    {
+        let label = self.table.add(rule, Note { side, live: true })?;
+        let head = head_of(rule.indicator);
+        self.rings.add(head, side);
+        self.known[head as usize] = true;
+        Ok(label)
+    }
+
     // The label behind a cell; none if the head follows.
     fn label_after(&self, cell: u32) -> Option<u32>
         requires { cell < length (links_of self.now) }
         ensures { result ≡ label_of (after_at (links_of self.now) cell) }
     {
-        label_of(self.links[cell as usize].after)
+        label_of(self.rings.after(cell))
     }
 
     // Whether the label stands in the row of this indicator.
     fn is_live(&self, label: u32, indicator: Indicator) -> bool
-        ensures { result
-            ≡ holds label (row_of (entries_of self.now) indicator.name indicator.arity) }
+        ensures { result ≡ holds label (row_of self.now.table.kept indicator.name indicator.arity) }
     {
-        if (label as usize) < self.entries.len() {
-            is_live_of(self.entries[label as usize], indicator)
-        } else {
-            false
-        }
+        self.table.is_of(label, indicator) && self.table.note(label).is_some_and(|note| note.live)
     }
-}
-
-// Whether this is the entry of a live rule of this indicator.
-fn is_live_of(entry: Entry, indicator: Indicator) -> bool
-    ensures { result ≡ is_live_of entry indicator.name indicator.arity }
-{
-    entry.live
-        && entry.indicator.name() == indicator.name()
-        && entry.indicator.arity() == indicator.arity()
-}
-
-// So many nodes from a place on.
-fn part(nodes: &[Node], start: u32, count: u32) -> &[Node]
-    requires { start + count ≤ length nodes.now }
-    ensures { result.now ≡ take count (drop start nodes.now) }
-{
-    let start = start as usize;
-    &nodes[start..start + count as usize]
 }

@@ -9,20 +9,8 @@ use crate::fault::NameFault;
 use crate::names::{MAX_BYTES, MAX_NAMES, Names};
 use terms::known::MAX_NAME;
 
-// Puts the name behind the bytes, in the memory that is reserved for it.
-fn append(bytes: &mut Vec<u8>, name: &[u8])
-    requires { vec_len bytes.old + length name.now ≤ vec_capacity bytes.old }
-    ensures items { bytes.new.items ≡ bytes.old.items ++ name.now }
-    ensures len { vec_len bytes.new ≡ vec_len bytes.old + length name.now }
-    ensures capacity { vec_capacity bytes.new ≡ vec_capacity bytes.old }
-{
-    for byte in name {
-        bytes.push_reserved(*byte);
-    }
-}
-
 impl Names {
-    // The number of the name, which is added at the end if it is not yet in the table. The names before it keep theirs.
+    /// The number of the name, which is added at the end if it is not yet in the table. The names before it keep theirs.
     pub fn intern(&mut self, name: &[u8]) -> Result<u16, NameFault>
         ensures value { result ≡ interned (list self.old) name.now }
         ensures after { list self.new ≡ list_after (list self.old) name.now }
@@ -61,7 +49,7 @@ impl Names {
         ensures { list self.new ≡ list self.old ++ name.now ∷ [] }
     {
         let end = self.bytes.len() + name.len();
-        append(&mut self.bytes, name);
+        self.bytes.extend_from_slice(name).unwrap();
         self.bounds.push_reserved(end as u16);
     }
 }

@@ -1,6 +1,6 @@
 //! A new table, which holds the known names.
 
-ghost use Rattle.std.specs.Prelude.{◌≡◌, ◌<◌, [], IfOk, slice_index_or};
+ghost use Rattle.std.specs.Prelude.{◌≡◌, IfOk};
 ghost use Rattle.names.specs.View.{list};
 ghost use Rattle.terms.specs.Known.{known};
 
@@ -60,24 +60,16 @@ const NAMES: [&[u8]; KNOWN] = [
     b":-",
 ];
 
-// The known name with the number i.
-fn known_name(i: usize) -> &'static [u8]
-    requires { i < 48 }
-    ensures { result.now ≡ slice_index_or known i [] }
-{
-    NAMES[i]
-}
-
 impl Names {
-    // A table of the known names, with all the memory that it will ever use.
+    /// A table of the known names, with all the memory that it will ever use.
     pub fn new(heap: Global) -> Result<Names, AllocError>
         ensures { IfOk result (λ t. list t ≡ known) }
     {
         let mut bytes = Vec::with_capacity(heap, MAX_BYTES)?;
         let mut bounds = Vec::with_capacity(heap, MAX_NAMES + 1)?;
         bounds.push(0)?;
-        for i in 0..KNOWN {
-            bytes.extend_from_slice(known_name(i))?;
+        for name in NAMES {
+            bytes.extend_from_slice(name)?;
             bounds.push(bytes.len() as u16)?;
         }
         Ok(Names { bytes, bounds })

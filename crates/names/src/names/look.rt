@@ -8,7 +8,7 @@ ghost use Rattle.std.specs.Option.{option_map};
 use crate::names::Names;
 
 impl Names {
-    // How many names there are.
+    /// How many names there are.
     pub fn len(&self) -> usize
         ensures value { result ≡ length (list self.now) }
         ensures bound { (48 ≤ result) × (result ≤ 512) }
@@ -27,7 +27,7 @@ impl Names {
         &self.bytes[start..end]
     }
 
-    // The bytes of the name with that number. No other number has the same name.
+    /// The bytes of the name with that number. No other number has the same name.
     pub fn get(&self, name: u16) -> Option<&[u8]>
         ensures value { option_map (λ x. x.now) result ≡ name_at (list self.now) name }
         ensures place { IfSome result (λ x. place_of (list self.now) x.now ≡ Some name) }
@@ -40,16 +40,20 @@ impl Names {
         }
     }
 
-    // The number of the name, if it is in the table.
+    /// The number of the name, if it is in the table.
+    #[tactic(auto, using(crate::proofs::ListedProperties::tells))]
     pub fn find(&self, name: &[u8]) -> Option<u16>
         ensures value { result ≡ place_of (list self.now) name.now }
         ensures tells { Tells (list self.now) name.now result }
     {
-        for i in 0..self.len() {
-            if self.at(i) == name {
-                return Some(i as u16);
-            }
-        }
-        None
+        self.place(name).map(|place| place as u16)
+    }
+
+    // The same as an index.
+    fn place(&self, name: &[u8]) -> Option<usize>
+        ensures value { result ≡ place_of (list self.now) name.now }
+        ensures bound { IfSome result (λ place. place < 512) }
+    {
+        (0..self.len()).find(|i| self.at(*i) == name)
     }
 }

@@ -6,8 +6,8 @@ ghost use Rattle.names.specs.View.{list};
 use crate::names::Names;
 use terms::known::KNOWN;
 
-// How many names there were.
-#[derive(Clone, Copy)]
+/// How many names there were.
+#[derive(Clone, Copy, Debug, PartialEq, Eq)]
 pub struct Mark {
     count: u16,
 }
@@ -22,7 +22,7 @@ impl Names {
         }
     }
 
-    // Forgets the names that were added since the mark. The known names always stay.
+    /// Forgets the names that were added since the mark. The known names always stay.
     pub fn back_to(&mut self, mark: Mark)
         ensures { list self.new ≡ take (max mark.count 48) (list self.old) }
     {

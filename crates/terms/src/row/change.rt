@@ -1,9 +1,9 @@
 //! How a row is made, grows and is cut back.
 
-ghost use Rattle.std.specs.Prelude.{◌≡◌, ◌≤◌, min, [], take, IfOk};
+ghost use Rattle.std.specs.Prelude.{◌≡◌, min, [], take, IfOk};
 ghost use Rattle.terms.specs.Rows.{all_below, fitting};
 ghost use Rattle.terms.specs.Places.{place_for, with_node};
-ghost use Rattle.terms.specs.RowViews.{row_nodes, row_limit};
+ghost use Rattle.terms.specs.RowViews.{row_nodes, row_limit, Becomes};
 
 use crate::known::MAX_ARGUMENTS;
 use crate::node::Node;
@@ -14,21 +14,21 @@ use std::alloc::{AllocError, Global};
 const MOST: usize = 65536;
 
 impl Row {
-    // An empty row for at most `limit` nodes, or 65,536 where that is less.
+    /// An empty row for at most `limit` nodes, or 65,536 where that is less.
     pub fn new(heap: Global, limit: usize) -> Result<Row, AllocError>
-        ensures { IfOk result (λ row. (row_nodes row ≡ []) × (row_limit row ≡ min limit 65536)) }
+        ensures empty { IfOk result (λ row. row_nodes row ≡ []) }
+        ensures limit { IfOk result (λ row. row_limit row ≡ min limit 65536) }
     {
         let limit = limit.min(MOST);
         let nodes = Vec::with_capacity(heap, limit)?;
         Ok(Row { nodes, limit })
     }
 
-    // Adds a node at the end and answers its place. None, with the row as it was, exactly where the row is full
-    // or the node may not stand there: it has more than eight arguments, or one that does not stand before it.
+    /// Adds a node at the end and answers its place. None, with the row as it was, exactly where the row is full
+    /// or the node may not stand there: it has more than eight arguments, or one that does not stand before it.
     pub fn push(&mut self, node: Node) -> Option<u32>
         ensures place { result ≡ place_for (row_limit self.old) (row_nodes self.old) node }
-        ensures items { row_nodes self.new ≡ with_node (row_limit self.old) (row_nodes self.old) node }
-        ensures limit { row_limit self.new ≡ row_limit self.old }
+        ensures row { Becomes self.old self.new (with_node (row_limit self.old) (row_nodes self.old) node) }
     {
         let at = self.nodes.len();
         if at < self.limit && fits(node, at) {
@@ -40,16 +40,14 @@ impl Row {
     }
 
     pub fn clear(&mut self)
-        ensures items { row_nodes self.new ≡ [] }
-        ensures limit { row_limit self.new ≡ row_limit self.old }
+        ensures { Becomes self.old self.new [] }
     {
         self.nodes.clear();
     }
 
-    // Keeps the first `n` nodes.
+    /// Keeps the first `n` nodes.
     pub fn truncate(&mut self, n: usize)
-        ensures items { row_nodes self.new ≡ take n (row_nodes self.old) }
-        ensures limit { row_limit self.new ≡ row_limit self.old }
+        ensures { Becomes self.old self.new (take n (row_nodes self.old)) }
     {
         self.nodes.truncate(n);
     }
@@ -61,23 +59,14 @@ fn fits(node: Node, at: usize) -> bool
 {
     match node {
         Node::Var(_) | Node::Int(_) => true,
-        Node::App {
-            name: _,
-            arity,
-            args,
-        } => arity as usize <= MAX_ARGUMENTS && all_before(args, arity, at),
+        Node::App { arity, args, .. } => arity as usize <= MAX_ARGUMENTS
+            && all_before(&args[..arity as usize], at),
     }
 }
 
-// Whether the first `arity` of the places stand before `at`.
-fn all_before(args: [u32; 8], arity: u8, at: usize) -> bool
-    requires { arity ≤ 8 }
-    ensures { result ≡ all_below at (take arity args) }
+// Whether all these places stand before `at`.
+fn all_before(places: &[u32], at: usize) -> bool
+    ensures { result ≡ all_below at places.now }
 {
-    for k in 0..arity {
-        if args[k as usize] as usize >= at {
-            return false;
-        }
-    }
-    true
+    places.iter().all(|place| (*place as usize) < at)
 }

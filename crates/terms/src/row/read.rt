@@ -14,22 +14,18 @@ impl Row {
         self.nodes.len()
     }
 
-    // How many nodes the row may come to have.
+    /// How many nodes the row may come to have.
     pub fn limit(&self) -> usize
         ensures { result ≡ row_limit self.now }
     {
         self.limit
     }
 
-    // The node at a place; None past the end.
+    /// The node at a place; None past the end.
     pub fn node(&self, at: u32) -> Option<Node>
         ensures { result ≡ node_at (row_nodes self.now) at }
     {
-        if (at as usize) < self.len() {
-            Some(self.nodes[at as usize])
-        } else {
-            None
-        }
+        self.nodes.get(at as usize).copied()
     }
 
     pub fn nodes(&self) -> &[Node]

@@ -15,7 +15,7 @@ use reader::sentence::Shape;
 use terms::known::TRUE;
 
 impl Builder {
-    // Builds the terms of all these steps, from nothing.
+    /// Builds the terms of all these steps, from nothing.
     pub fn build(&mut self, text: &[u8], ops: &[Op], names: &mut Names) -> Result<(), LimitFault>
         ensures kept { Extends (list names.old) (list names.new) }
         ensures built { Outcome text.now (list names.old) (run text.now ops.now) (list names.new) self.new result }
@@ -27,7 +27,7 @@ impl Builder {
         Ok(())
     }
 
-    // Builds the head and the body of a rule; a fact has the body `true`.
+    /// Builds the head and the body of a rule; a fact has the body `true`.
     pub fn build_rule(
         &mut self,
         shape: Shape,

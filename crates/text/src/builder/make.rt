@@ -5,7 +5,7 @@ ghost use Rattle.terms.specs.RowViews.{row_nodes};
 ghost use Rattle.text.specs.Builders.{Empty};
 
 use crate::builder::Builder;
-use crate::span::Span;
+use reader::span::Span;
 use std::alloc::{AllocError, Global};
 use terms::Row;
 use terms::known::{MAX_NAME, MAX_NODES, MAX_VARIABLES};
@@ -26,7 +26,7 @@ impl Builder {
         })
     }
 
-    // Forgets what was built.
+    /// Forgets what was built.
     pub fn clear(&mut self)
         ensures { Empty self.new }
     {
@@ -41,14 +41,14 @@ impl Builder {
         &self.row
     }
 
-    // The places of the terms that are not yet part of another.
+    /// The places of the terms that are not yet part of another.
     pub fn stack(&self) -> &[u32]
         ensures { result.now ≡ self.now.stack.items }
     {
         self.stack.as_slice()
     }
 
-    // The variables, each as the part of the text where it was met first.
+    /// The variables, each as the part of the text where it was met first.
     pub fn variables(&self) -> &[Span]
         ensures { result.now ≡ self.now.variables.items }
     {

@@ -11,10 +11,10 @@ use crate::builder::Builder;
 use crate::fault::LimitFault;
 use crate::integer::integer_value;
 use crate::name::unquote;
-use crate::span::part;
 use crate::variables::number;
 use names::Names;
 use reader::op::Op;
+use reader::span::{Span, part};
 use terms::Node;
 use terms::known::{COMMA, EMPTY_LIST, LIST_CELL, MAX_ARGUMENTS};
 
@@ -24,9 +24,7 @@ fn arguments(places: &[u32]) -> [u32; 8]
     ensures { take (length places.now) result ≡ places.now }
 {
     let mut args = [0u32; 8];
-    for (k, place) in places.iter().enumerate() {
-        args[k] = *place;
-    }
+    args[..places.len()].copy_from_slice(places);
     args
 }
 
@@ -35,16 +33,12 @@ impl Builder {
     fn push(&mut self, node: Node) -> Result<(), LimitFault>
         ensures { PushedIn self.old node self.new result }
     {
-        match self.row.push(node) {
-            Some(place) => {
-                self.stack.push_reserved(place);
-                Ok(())
-            }
-            None => Err(LimitFault::Nodes),
-        }
+        let place = self.row.push(node).ok_or(LimitFault::Nodes)?;
+        self.stack.push_reserved(place);
+        Ok(())
     }
 
-    // The name with the `arity` terms on top of the stack as its arguments, or all where there are fewer.
+    /// The name with the `arity` terms on top of the stack as its arguments, or all where there are fewer.
     pub fn compound(&mut self, name: u16, arity: usize) -> Result<(), LimitFault>
         ensures { Compounds name arity self.old self.new result }
     {
@@ -72,22 +66,20 @@ impl Builder {
         self.compound(name, 2)
     }
 
-    // One building step.
+    /// One building step. Where a limit is passed, only `kept` speaks of the names, so it is a clause of its own.
     pub fn step(&mut self, text: &[u8], op: Op, names: &mut Names) -> Result<(), LimitFault>
         ensures kept { Extends (list names.old) (list names.new) }
         ensures built { Steps text.now op (list names.old) self.old (list names.new) self.new result }
     {
         match op {
-            Op::Variable { start, end } => self.variable(text, start, end),
-            Op::Integer { start, end } => self.integer(part(text, start, end)),
-            Op::Name { start, end, arity } => {
-                let name = names.intern(part(text, start, end))?;
+            Op::Variable(span) => self.variable(text, span),
+            Op::Integer(span) => self.integer(part(text, span)),
+            Op::Name { span, arity } => {
+                let name = names.intern(part(text, span))?;
                 self.compound(name, arity)
             }
-            Op::Quoted { start, end, arity } => {
-                if !unquote(part(text, start, end), &mut self.spelled) {
-                    return Err(LimitFault::LongName);
-                }
+            Op::Quoted { span, arity } => {
+                unquote(part(text, span), &mut self.spelled)?;
                 let name = names.intern(self.spelled.as_slice())?;
                 self.compound(name, arity)
             }
@@ -98,10 +90,10 @@ impl Builder {
     }
 
     // A variable on top of the stack.
-    fn variable(&mut self, text: &[u8], start: usize, end: usize) -> Result<(), LimitFault>
-        ensures { Puts text.now (var (cut text.now start end)) self.old self.new result }
+    fn variable(&mut self, text: &[u8], span: Span) -> Result<(), LimitFault>
+        ensures { Puts text.now (var (cut text.now span.start span.end)) self.old self.new result }
     {
-        let number = number(&mut self.variables, text, start, end)?;
+        let number = number(&mut self.variables, text, span)?;
         self.push(Node::Var(number))
     }
 
@@ -109,9 +101,7 @@ impl Builder {
     fn integer(&mut self, digits: &[u8]) -> Result<(), LimitFault>
         ensures { (text : List ℕ) → Puts text (int digits.now) self.old self.new result }
     {
-        match integer_value(digits) {
-            Some(value) => self.push(Node::Int(value)),
-            None => Err(LimitFault::Integer),
-        }
+        let value = integer_value(digits).ok_or(LimitFault::Integer)?;
+        self.push(Node::Int(value))
     }
 }

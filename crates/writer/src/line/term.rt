@@ -3,7 +3,6 @@
 ghost use Rattle.std.specs.Prelude.{◌≡◌, ◌<◌, ◌≤◌, [], length, take, slice_index_or};
 ghost use Rattle.names.specs.View.{list};
 ghost use Rattle.terms.specs.RowViews.{row_nodes};
-ghost use Rattle.terms.specs.Term.{var, int};
 ghost use Rattle.writer.specs.Lines.{PutsBytes, PutsTerm, PutsShown, TermAdded, term_of};
 ghost use Rattle.writer.specs.Pieces.{opening_text, closing_text, further_text, head_text};
 
@@ -17,13 +16,11 @@ use terms::{Node, Row};
 fn name_of(names: &Names, name: u16) -> &[u8]
     ensures { result.now ≡ slice_index_or (list names.now) name [] }
 {
-    match names.get(name) {
-        Some(bytes) => bytes,
-        None => b"",
-    }
+    names.get(name).unwrap_or(b"")
 }
 
 // The places of the arguments, of the eight that a node has room for.
+// A function of its own: its parameter's type tells the length of the array.
 fn arguments(args: &[u32; 8], arity: u8) -> &[u32]
     requires { arity ≤ 8 }
     ensures { result.now ≡ take arity args.now }
@@ -32,20 +29,18 @@ fn arguments(args: &[u32; 8], arity: u8) -> &[u32]
 }
 
 impl LineWriter {
-    // Adds the term at `at`, or nothing of it where it does not all fit. Outside the row stands the number 0.
+    /// Adds the term at `at`, or nothing of it where it does not all fit. Outside the row stands the number 0.
     pub fn term(&mut self, row: &Row, at: u32, names: &Names) -> Result<(), DoesNotFit>
         ensures { TermAdded self.old self.new (term_of names.now row.now at) result }
     {
         let length_before = self.bytes.len();
         let seen_before = self.seen.len();
-        match self.whole(row, at, names) {
-            Ok(()) => Ok(()),
-            Err(fault) => {
-                self.seen.truncate(seen_before);
-                self.bytes.truncate(length_before);
-                Err(fault)
-            }
+        let written = self.whole(row, at, names);
+        if written.is_err() {
+            self.seen.truncate(seen_before);
+            self.bytes.truncate(length_before);
         }
+        written
     }
 
     // The same, but where it does not fit, a part of it stays.
@@ -53,7 +48,7 @@ impl LineWriter {
         ensures { PutsShown self.old self.new (term_of names.now row.now at) result }
     {
         if row.len() <= at as usize {
-            self.number(0)
+            self.number(Spot::Alone, b"", 0u32)
         } else {
             self.node(row, at, names, Spot::Alone)
         }
@@ -65,35 +60,19 @@ impl LineWriter {
         ensures { PutsTerm self.old self.new spot (term_of names.now row.now at) result }
     {
         match row.nodes()[at as usize] {
-            Node::Var(variable) => self.placed_variable(spot, variable),
-            Node::Int(i) => self.placed_integer(spot, i),
+            Node::Var(variable) => self.variable(spot, variable),
+            Node::Int(i) => self.number(spot, b"", i),
             Node::App { name, arity, args } => {
                 let name = name_of(names, name);
                 let args = arguments(&args, arity);
                 let form = form_of(name, args);
                 self.opening(spot, form, name)?;
-                for k in 0..args.len() {
-                    self.node(row, args[k], names, argument_spot(form, k))?;
+                for (k, at) in args.iter().enumerate() {
+                    self.node(row, *at, names, argument_spot(form, k))?;
                 }
                 self.closing(spot, form)
             }
         }
-    }
-
-    fn placed_variable(&mut self, spot: Spot, variable: u32) -> Result<(), DoesNotFit>
-        ensures { PutsTerm self.old self.new spot (var variable) result }
-    {
-        self.put(before(spot))?;
-        self.variable(variable)?;
-        self.put(after(spot))
-    }
-
-    fn placed_integer(&mut self, spot: Spot, i: i32) -> Result<(), DoesNotFit>
-        ensures { PutsTerm self.old self.new spot (int i) result }
-    {
-        self.put(before(spot))?;
-        self.integer(i)?;
-        self.put(after(spot))
     }
 
     // What stands before the arguments.

@@ -1,9 +1,9 @@
--- One byte, and it is `_`.
-use Rattle.text.proofs.NumberingProperties.{lone_one, lone_other}
+-- The name is `_`.
+use Rattle.std.proofs.Common.{ap, ◌∙◌}
+use Rattle.tokens.specs.Bytes.{same}
+use Rattle.text.proofs.NumberingProperties.{same_slices}
 use Rattle.text.proofs.variables.is_lone.Goals as goal
 
-pub returns-then-name-eq1 : goal.returns-then-name-eq1
-returns-then-name-eq1 c = lone_one c.args.name.now c.if-name-eq1.true
-
-pub returns-else-name-eq1 : goal.returns-else-name-eq1
-returns-else-name-eq1 c = lone_other c.args.name.now c.if-name-eq1.false
+pub returns : goal.returns
+returns c =
+    c.eq.ensures ∙ same_slices c.args.name.now c.as_slice.result.now ∙ ap (same c.args.name.now) c.as_slice.ensures

@@ -1,7 +1,7 @@
 -- An earlier variable of the same name, or one more.
 use Rattle.std.proofs.Common.{◌≡◌, ◌<◌, [], ◌∷◌, ◌++◌, length, Some, vec_items, sym, refl, ap, ◌∙◌, arith, rules}
 use Rattle.std.proofs.lemmas.List.{length_push}
-use Rattle.text.specs.declared.span.Span.{Span}
+use Rattle.reader.specs.declared.span.Span.{Span}
 use Rattle.text.specs.Numbering.{found_in, number_of, meets}
 use Rattle.text.specs.Building.{cuts}
 use Rattle.text.proofs.NumberingProperties.{number_old, number_below, number_new, length_cuts, cuts_push}
@@ -52,13 +52,12 @@ returns c =
     ∙ ap (λ ss. found_in (cuts text ss) c.part-name.result.now) c.as_slice.ensures.value) in
     let all = length_cuts text ss in
     let next : c.len-next.result ≡ length e = omega arith in
-    let here : Span = record { start = c.args.start; end = c.args.end } in
     record {
       same_room = c.push_reserved.ensures.capacity;
       still_few = (let n = c.push_reserved.ensures.len in omega arith);
       value = (
         next ∙ new.0 ∙ ap (number_of e) a,
-        ap (cuts text) c.push_reserved.ensures.items ∙ cuts_push text ss here
+        ap (cuts text) c.push_reserved.ensures.items ∙ cuts_push text ss c.args.span
             ∙ ap (λ x. e ++ x ∷ []) (sym a) ∙ new.1 ∙ ap (meets e) a,
       );
     }

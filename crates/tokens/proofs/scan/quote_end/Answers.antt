@@ -1,67 +1,48 @@
-use Rattle.std.proofs.Common.{◌≡◌, ℕ, ◌+◌, ◌-◌, ◌≤◌, false, List, take, drop, sym, refl, ap, ◌∙◌, subst, arith}
-use Rattle.std.proofs.Common.{length-drop, drop-drop}
-use Rattle.tokens.specs.Scanning.{quote_at, undouble}
+use Rattle.std.proofs.Common.{◌≡◌, ℕ, ◌+◌, ◌-◌, ◌<◌, ◌≤◌, true, false, List, Some, length, get_or, take, drop, refl, sym}
+use Rattle.std.proofs.Common.{ap, ◌∙◌, subst, arith, eq-eqb, ne_eqb, length-drop, drop-drop}
+use Rattle.std.proofs.lemmas.List.{take_rest}
 use Rattle.tokens.specs.Token.{name, got}
-use Rattle.tokens.proofs.QuoteProperties.{Reading, reading_plain, reading_doubled, reading_closed, reading_endless}
+use Rattle.tokens.specs.Scanning.{undouble, QuoteRead}
+use Rattle.tokens.proofs.BytesProperties.{drop_here}
+use Rattle.tokens.proofs.QuoteProperties.{quote_at, Reading, reading_plain, reading_quote, reading_closed}
 use Rattle.tokens.proofs.scan.quote_end.Goals as goal
-
--- the bytes at a place, counted from the inside of the name
-at_place : (line : List ℕ) (pos i : ℕ) → pos ≤ i → drop (i - pos) (drop pos line) ≡ drop i line
-at_place line pos i h = let e : pos + (i - pos) ≡ i = omega arith in drop-drop (i - pos) pos line ∙ ap (λ n. drop n line) e
-
-next_place : (line : List ℕ) (pos i : ℕ) → pos ≤ i → drop (i - pos + 1) (drop pos line) ≡ drop (i + 1) line
-next_place line pos i h = let e : pos + (i - pos + 1) ≡ i + 1 = omega arith in drop-drop (i - pos + 1) pos line ∙ ap (λ n. drop n line) e
-
-pub loop-i-preserved-then-not-quote_at : goal.loop-i-preserved-then-not-quote_at
-loop-i-preserved-then-not-quote_at c =
-    let line = c.args.line.now in
-    let pos = c.args.pos in
-    let i = c.loop-i.i in
-    let l = c.loop-i.invariant.0 in
-    let k = length-drop pos line in
-    let e : i + 1 - pos ≡ i - pos + 1 = omega arith in (
-      omega arith,
-      omega arith,
-      subst (λ m. Reading (drop pos line) m) (sym e)
-          (reading_plain (drop pos line) (i - pos) (omega arith) (ap quote_at (at_place line pos i l) ∙ sym c.if-not-quote_at.ensures.value) c.loop-i.invariant.2),
-    )
+use Rattle.tokens.proofs.scan.quote_end.Goals.{then-b-eq39, else-b-eq39+else-closed}
 
 pub loop-i-preserved : goal.loop-i-preserved
 loop-i-preserved c =
-    let line = c.args.line.now in
-    let pos = c.args.pos in
+    let rest = drop c.args.pos c.args.line.now in
     let i = c.loop-i.i in
-    let l = c.loop-i.invariant.0 in
-    let k = length-drop pos line in
-    let h = c.if-quote_at.ensures.inside refl in
-    let e : i + 2 - pos ≡ i - pos + 2 = omega arith in (
-      omega arith,
-      omega arith,
-      subst (λ m. Reading (drop pos line) m) (sym e)
-          (reading_doubled (drop pos line) (i - pos) (omega arith) (ap quote_at (at_place line pos i l) ∙ sym c.if-not-quote_at.ensures.value)
-          (ap quote_at (next_place line pos i l) ∙ sym c.if-quote_at.ensures.value) c.loop-i.invariant.2),
+    let n = length-drop c.args.pos c.args.line.now in
+    let e = take_rest c.args.line.now c.args.pos in
+    let h : i < length rest = omega (arith, ap length e) in
+    elim c.if-b-eq39.branch [
+      | then-b-eq39 w ↦ subst (λ b. Reading rest (i + 1) b) (sym w.closed-is)
+          (reading_quote rest i h c.loop-i.closed (eq-eqb _ 39 (ap (λ l. get_or l i 0) (sym e) ∙ w.if-b-eq39.true))
+          c.loop-i.invariant)
+      | else-b-eq39+else-closed w ↦ subst (λ b. Reading rest (i + 1) b) (sym (w.closed-is ∙ w.if-closed.false))
+          (reading_plain rest i h (ne_eqb _ 39 (λ q. w.if-b-eq39.false (ap (λ l. get_or l i 0) e ∙ q)))
+          (subst (λ b. Reading rest i b) w.if-closed.false c.loop-i.invariant))
+    ]
+
+-- the quote before the byte m of the inside closes the name
+closes : (line : List ℕ) (pos m : ℕ) → pos + m ≤ length line → quote_at (drop m (drop pos line)) ≡ false
+    → Reading (drop pos line) m true → QuoteRead line pos (Some (pos + m))
+closes line pos m h q r =
+    let n : pos + m - 1 - pos ≡ m - 1 = omega arith in (
+      omega (arith, r.begun refl),
+      h,
+      reading_closed (drop pos line) m q r
+          ∙ ap (λ n. got (name (undouble false (take n (drop pos line)))) (drop m (drop pos line))) (sym n)
+          ∙ ap (λ s. got (name (undouble false (take (pos + m - 1 - pos) (drop pos line)))) s) (drop-drop m pos line),
     )
 
-pub returns-else-quote_at : goal.returns-else-quote_at
-returns-else-quote_at c =
-    let line = c.args.line.now in
-    let pos = c.args.pos in
-    let i = c.loop-i.i in
-    let l = c.loop-i.invariant.0 in
-    let k = length-drop pos line in
-    let e : i - pos ≡ i + 1 - 1 - pos = omega arith in (
-      omega arith,
-      omega arith,
-      reading_closed (drop pos line) (i - pos) (omega arith) (ap quote_at (at_place line pos i l) ∙ sym c.if-not-quote_at.ensures.value)
-          (ap quote_at (next_place line pos i l) ∙ sym c.if-quote_at.ensures.value) c.loop-i.invariant.2
-          ∙ ap (λ m. got (name (undouble false (take m (drop pos line)))) (drop (i - pos + 1) (drop pos line))) e
-          ∙ ap (λ r. got (name (undouble false (take (i + 1 - 1 - pos) (drop pos line)))) r) (next_place line pos i l),
-    )
-
-pub returns : goal.returns
-returns c =
-    let line = c.args.line.now in
-    let pos = c.args.pos in
-    let i = c.loop-i.i in
-    let k = length-drop pos line in
-    (omega arith, reading_endless (drop pos line) (i - pos) (omega arith) c.loop-i.invariant.2)
+pub returns-then-closed : goal.returns-then-closed
+returns-then-closed c =
+    let rest = drop c.args.pos c.args.line.now in
+    let n = length-drop c.args.pos c.args.line.now in
+    let e = take_rest c.args.line.now c.args.pos in
+    let h : c.loop-i.i < length rest = omega (arith, ap length e) in
+    closes c.args.line.now c.args.pos c.loop-i.i (omega arith)
+    (ap quote_at (drop_here rest c.loop-i.i h)
+    ∙ ne_eqb _ 39 (λ q. c.if-b-eq39.false (ap (λ l. get_or l c.loop-i.i 0) e ∙ q)))
+    (subst (λ b. Reading rest c.loop-i.i b) c.if-closed.true c.loop-i.invariant)

@@ -1,6 +1,5 @@
 -- The first names alone are a sound table, and a mark past the end takes them all.
-use Rattle.std.proofs.Common.{◌≡◌, ◌≤◌, take, vec_items, vec_len, vec_capacity, sym, ap, ◌∙◌, arith}
-use Rattle.std.proofs.lemmas.List.{take_all}
+use Rattle.std.proofs.Common.{◌≡◌, ◌≤◌, take, vec_items, vec_len, ap, ◌∙◌, arith}
 use Rattle.names.specs.View.{list}
 use Rattle.names.proofs.ViewProperties.{length_list, list_cut, ascends_cut, bound_le, sound_cut}
 use Rattle.names.proofs.names.Names.back_to.Goals as goal
@@ -26,16 +25,11 @@ invariant_of-self c =
     let a =
     ascends_cut t keep end (vec_len c.truncate.new.self) (vec_items c.truncate-then-keep-len.new.self)
     (omega arith) c.index.ensures m y in
-    let few : vec_len c.truncate-then-keep-len.new.self ≤ 513 =
-    omega (arith, c.truncate-then-keep-len.ensures.len, t.few) in
-    let room : 513 ≤ vec_capacity c.truncate-then-keep-len.new.self =
-    omega (arith, c.truncate-then-keep-len.ensures.capacity, t.room) in
-    let space : 8192 ≤ vec_capacity c.truncate.new.self = omega (arith, c.truncate.ensures.capacity, t.space) in
     record {
-      few = few;
+      few = omega (arith, c.truncate-then-keep-len.ensures.len, t.few);
       small = omega (arith, t.small);
-      room = room;
-      space = space;
+      room = omega (arith, c.truncate-then-keep-len.ensures.capacity, t.room);
+      space = omega (arith, c.truncate.ensures.capacity, t.space);
       cut = a;
       brief = s.0;
       apart = s.1;
@@ -51,8 +45,3 @@ returns-then-keep-len c =
     (vec_items c.truncate-then-keep-len.new.self) (omega arith) c.index.ensures
     c.truncate.ensures.items c.truncate-then-keep-len.ensures.items
     ∙ ap (λ k. take k (list t)) c.max-keep.ensures
-
-pub returns-else-keep-len : goal.returns-else-keep-len
-returns-else-keep-len c =
-    let v = c.len.ensures.value in
-    sym (take_all _ (list c.args.self.now) (omega (arith, c.max-keep.ensures)))

@@ -1,66 +1,76 @@
 -- After the last turn the table holds all known names.
-use Rattle.std.proofs.Common.{◌≡◌, ◌+◌, ◌≤◌, true, [], ◌∷◌, ◌++◌, length, vec_items, vec_len, ap, ◌∙◌, subst, arith}
+use Rattle.std.proofs.Common.{◌≡◌, ◌+◌, true, [], ◌∷◌, ◌++◌, length, get_or, vec_items, vec_len, refl, ap, ◌∙◌}
+use Rattle.std.proofs.Common.{subst, length-append, arith}
+use Rattle.terms.specs.Known.{known}
 use Rattle.names.specs.Table.{ascends, names_of}
 use Rattle.names.proofs.TableProperties.{length_names_of}
 use Rattle.names.proofs.KnownProperties.{stored_le, known_brief, stored_more, stored_ascends, stored_all, sound_known}
+use Rattle.names.proofs.KnownProperties.{now_get_d}
 use Rattle.names.proofs.names.Names.new.Goals as goal
 
 pub overflow_cast-len : goal.overflow_cast-len
 overflow_cast-len c =
-    let bytes = vec_items c.loop-i.bytes in
-    let bounds = vec_items c.loop-i.bounds in
-    let a : ascends (length bytes) bounds ≡ true =
-    subst (λ n. ascends n bounds ≡ true) c.loop-i.bytes.ok.0 c.loop-i.invariant.1 in
-    let l = stored_le c.loop-i.i bytes bounds c.loop-i.invariant.0 a in
-    let s = ap length c.known_name.ensures in
-    let k = known_brief c.loop-i.i in
-    omega (arith, c.in_ok-extend_from_slice.ensures.len, c.loop-i.bytes.ok.0)
+    let i = c.loop-name.name-index in
+    let bytes = vec_items c.loop-name.bytes in
+    let bounds = vec_items c.loop-name.bounds in
+    let name = get_or known i [] in
+    let n = c.loop-name.bytes.ok.0 in
+    let a : ascends (length bytes) bounds ≡ true = subst (λ k. ascends k bounds ≡ true) n c.loop-name.invariant.cut in
+    let few = stored_le i bytes bounds c.loop-name.invariant.stored a in
+    let brief = known_brief i in
+    let l = c.loop-name-test.true in
+    let added = c.in_ok-extend_from_slice.ensures.items in
+    let x : vec_items c.extend_from_slice.new.self ≡ bytes ++ name = rw now_get_d at added in
+    let m = ap length x ∙ length-append bytes name in
+    omega (arith, c.extend_from_slice.new.self.ok.0)
 
-pub loop-i-preserved : goal.loop-i-preserved
-loop-i-preserved c =
-    let bytes = vec_items c.loop-i.bytes in
-    let bounds = vec_items c.loop-i.bounds in
-    let name = c.known_name.result.now in
+pub loop-name-preserved : goal.loop-name-preserved
+loop-name-preserved c =
+    let i = c.loop-name.name-index in
+    let bytes = vec_items c.loop-name.bytes in
+    let bounds = vec_items c.loop-name.bounds in
+    let name = get_or known i [] in
+    let inv = c.loop-name.invariant in
     let u = c.in_ok-extend_from_slice.ensures in
     let v = c.in_ok-push-2.ensures in
-    let n = c.loop-i.bytes.ok.0 in
-    let a : ascends (length bytes) bounds ≡ true = subst (λ k. ascends k bounds ≡ true) n c.loop-i.invariant.1 in
-    let x : vec_items c.extend_from_slice.new.self ≡ bytes ++ name = u.items in
+    let n = c.loop-name.bytes.ok.0 in
+    let a : ascends (length bytes) bounds ≡ true = subst (λ k. ascends k bounds ≡ true) n inv.cut in
+    let l = c.loop-name-test.true in
+    let added = u.items in
+    let x : vec_items c.extend_from_slice.new.self ≡ bytes ++ name = rw now_get_d at added in
     let m : vec_len c.extend_from_slice.new.self ≡ length bytes + length name =
-    u.len ∙ ap (λ k. k + length name) n in
-    let y : vec_items c.push-in-loop-i.new.self ≡ bounds ++ c.len.result ∷ [] = v.items in
+    c.extend_from_slice.new.self.ok.0 ∙ ap length x ∙ length-append bytes name in
+    let y : vec_items c.push-in-loop-name.new.self ≡ bounds ++ c.len.result ∷ [] = v.items in
     let z : c.len.result ≡ length bytes + length name = c.len.ensures ∙ m in
-    let s =
-    stored_more c.loop-i.i bytes bounds name c.loop-i-test.true c.known_name.ensures
-    c.loop-i.invariant.0 a in
+    let s = stored_more i bytes bounds name l refl inv.stored a in
     let t = stored_ascends bytes bounds name a in
-    (cc, cc, omega (arith, u.capacity, c.loop-i.invariant.2), omega (arith, v.capacity, c.loop-i.invariant.3))
+    record {
+      stored = cc;
+      cut = cc;
+      space = omega (arith, u.capacity, inv.space);
+      room = omega (arith, v.capacity, inv.room);
+    }
 
 pub invariant_of-result : goal.invariant_of-result
 invariant_of-result c =
-    let bytes = vec_items c.loop-i.bytes in
-    let bounds = vec_items c.loop-i.bounds in
-    let a : ascends (length bytes) bounds ≡ true =
-    subst (λ n. ascends n bounds ≡ true) c.loop-i.bytes.ok.0 c.loop-i.invariant.1 in
-    let e = stored_all c.loop-i.i bytes bounds c.loop-i-test.false c.loop-i.invariant.0 in
-    let l = stored_le c.loop-i.i bytes bounds c.loop-i.invariant.0 a in
-    let n : length (names_of bytes bounds) + 1 ≡ length bounds = length_names_of (length bytes) bytes bounds a in
+    let bytes = vec_items c.loop-name.bytes in
+    let bounds = vec_items c.loop-name.bounds in
+    let inv = c.loop-name.invariant in
+    let i = c.loop-name.name-index in
+    let n = c.loop-name.bytes.ok.0 in
+    let a : ascends (length bytes) bounds ≡ true = subst (λ k. ascends k bounds ≡ true) n inv.cut in
+    let e = stored_all i bytes bounds c.loop-name-test.false inv.stored in
+    let l = stored_le i bytes bounds inv.stored a in
+    let k : length (names_of bytes bounds) + 1 ≡ length bounds = length_names_of (length bytes) bytes bounds a in
     let m : length (names_of bytes bounds) ≡ 48 = ap length e in
     let s = sound_known (names_of bytes bounds) e in
-    let few : vec_len c.loop-i.bounds ≤ 513 = omega (arith, c.loop-i.bounds.ok.0) in
-    let small : vec_len c.loop-i.bytes ≤ 8192 = omega (arith, c.loop-i.bytes.ok.0) in
     record {
-      few = few;
-      small = small;
-      room = c.loop-i.invariant.3;
-      space = c.loop-i.invariant.2;
-      cut = c.loop-i.invariant.1;
+      few = omega (arith, c.loop-name.bounds.ok.0);
+      small = omega (arith, n);
+      room = inv.room;
+      space = inv.space;
+      cut = inv.cut;
       brief = s.0;
       apart = s.1;
       first = s.2;
     }
-
-pub returns : goal.returns
-returns c =
-    stored_all c.loop-i.i (vec_items c.loop-i.bytes) (vec_items c.loop-i.bounds) c.loop-i-test.false
-    c.loop-i.invariant.0

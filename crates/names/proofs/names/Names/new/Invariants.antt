@@ -4,8 +4,11 @@ use Rattle.terms.specs.Known.{known}
 use Rattle.names.specs.Table.{ascends, names_of}
 use Rattle.names.proofs.names.Names.new.Given as goal
 
-abbrev pub invariant-loop-i : goal.invariant-loop-i
-invariant-loop-i l = (names_of (vec_items l.bytes) (vec_items l.bounds) ≡ take l.i known)
-    × (ascends (vec_len l.bytes) (vec_items l.bounds) ≡ true)
-    × (8192 ≤ vec_capacity l.bytes)
-    × (513 ≤ vec_capacity l.bounds)
+abbrev pub invariant-loop-name : goal.invariant-loop-name
+invariant-loop-name l =
+    record {
+      stored : names_of (vec_items l.bytes) (vec_items l.bounds) ≡ take l.name-index known;
+      cut : ascends (vec_len l.bytes) (vec_items l.bounds) ≡ true;
+      space : 8192 ≤ vec_capacity l.bytes;
+      room : 513 ≤ vec_capacity l.bounds;
+    }

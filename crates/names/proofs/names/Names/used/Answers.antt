@@ -3,11 +3,5 @@ use Rattle.std.proofs.Common.{arith}
 use Rattle.names.proofs.ViewProperties.{total_list}
 use Rattle.names.proofs.names.Names.used.Goals as goal
 
-pub returns : goal.returns
-returns c =
-    let t = c.args.self.now in
-    let n = total_list t in
-    record {
-      value = omega arith;
-      bound = omega (arith, t.small);
-    }
+pub returns-clause-value : goal.returns-clause-value
+returns-clause-value c = let n = total_list c.args.self.now in omega arith

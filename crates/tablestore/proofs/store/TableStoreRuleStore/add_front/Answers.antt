@@ -1,43 +1,40 @@
 -- The new label stands at this end of the live labels.
-use Rattle.std.proofs.Common.{◌≡◌, ◌+◌, ◌<◌, ◌∷◌, is_ok, vec_items, vec_len, vec_capacity, ap, arith}
+use Rattle.std.proofs.Common.{◌≡◌, ◌+◌, ◌<◌, ◌∷◌, is_ok, vec_items, vec_len, vec_capacity, arith}
 use Rattle.rules.specs.Meaning.{front, placed}
 use Rattle.rules.specs.Calls.{value_of}
+use Rattle.rules.proofs.TablesProperties.{entered_room, within_entered}
 use Rattle.tablestore.specs.Views.{live_of}
 use Rattle.tablestore.proofs.RowsProperties.{live_placed}
-use Rattle.tablestore.proofs.ViewsProperties.{when_true, placed_live, added}
+use Rattle.tablestore.proofs.ViewsProperties.{when_true, added}
 use Rattle.tablestore.proofs.store.TableStoreRuleStore.add_front.Goals as goal
 
-pub invariant_of-self : goal.invariant_of-self
-invariant_of-self c =
+pub invariant_of-self-2 : goal.invariant_of-self-2
+invariant_of-self-2 c =
     let s = c.args.self.now in
-    let t = c.keep-label.new.self in
-    let k = c.keep-label.ensures in
-    let held = t.held in
-    let few = t.few in
-    let before = s.few in
-    let same = ap vec_len k.live in
-    let next = k.next in
-    let left = k.left in
+    let u = c.add.new.self in
+    let v = value_of c.args.rule in
+    let l = c.in_ok-label.label in
+    let k = c.in_ok-label.ensures in
+    let three = entered_room s.table u v _ l k in
+    let free = three.0 in
+    let next = three.2 in
+    let few = s.few in
+    let reserved = s.reserved in
     let labels = k.labels in
-    let fits : vec_len t.live < vec_capacity t.live = omega arith in
+    let fits : vec_len s.live < vec_capacity s.live = omega arith in
     let ok = c.insert.ensures.succeeds fits in
-    let items : vec_items c.insert.new.self ≡ placed front c.keep-label.result (live_of s)
-    = placed_live front c.keep-label.result (vec_items t.live) (live_of s) (vec_items c.insert.new.self)
-    (ap vec_items k.live)
-    (when_true (is_ok c.insert.result) (c.keep-label.result ∷ vec_items t.live) (vec_items t.live)
-    (vec_items c.insert.new.self) c.insert.ensures.items ok) in
-    let more : vec_len c.insert.new.self ≡ vec_len t.live + 1
-    = when_true (is_ok c.insert.result) (vec_len t.live + 1) (vec_len t.live) (vec_len c.insert.new.self)
+    let items : vec_items c.insert.new.self ≡ placed front l (live_of s)
+    = when_true (is_ok c.insert.result) (l ∷ live_of s) (live_of s) (vec_items c.insert.new.self)
+    c.insert.ensures.items ok in
+    let more : vec_len c.insert.new.self ≡ vec_len s.live + 1
+    = when_true (is_ok c.insert.result) (vec_len s.live + 1) (vec_len s.live) (vec_len c.insert.new.self)
     c.insert.ensures.len ok in
     let cap = c.insert.ensures.capacity in
-    let two = live_placed front (vec_len s.entries) (vec_len t.entries) c.keep-label.result (live_of s)
-    (vec_items c.insert.new.self) s.used s.once k.label k.next items in
+    let two = live_placed front _ _ l (live_of s) (vec_items c.insert.new.self) s.used s.once k.label next items in
     record {
-      sizes = t.sizes;
-      held = (held.0, held.1, omega arith);
-      few = (few.0, few.1, omega arith);
-      tiled = t.tiled;
-      within = t.within;
+      within = within_entered s.table u v _ l s.within k c.args.rule.indicator.small;
+      reserved = omega arith;
+      few = omega arith;
       used = two.0;
       once = two.1;
     }
@@ -45,19 +42,14 @@ invariant_of-self c =
 pub returns : goal.returns
 returns c =
     let s = c.args.self.now in
-    let t = c.keep-label.new.self in
-    let k = c.keep-label.ensures in
-    let held = t.held in
-    let before = s.few in
-    let same = ap vec_len k.live in
-    let left = k.left in
-    let labels = k.labels in
-    let fits : vec_len t.live < vec_capacity t.live = omega arith in
-    let ok = c.insert.ensures.succeeds fits in
-    let items : vec_items c.insert.new.self ≡ placed front c.keep-label.result (live_of s)
-    = placed_live front c.keep-label.result (vec_items t.live) (live_of s) (vec_items c.insert.new.self)
-    (ap vec_items k.live)
-    (when_true (is_ok c.insert.result) (c.keep-label.result ∷ vec_items t.live) (vec_items t.live)
-    (vec_items c.insert.new.self) c.insert.ensures.items ok) in
-    added front s t (value_of c.args.rule) c.keep-label.result (vec_items c.insert.new.self)
-    c.if-is_full.ensures k items
+    let l = c.in_ok-label.label in
+    let k = c.in_ok-label.ensures in
+    let three = entered_room s.table c.add.new.self (value_of c.args.rule) _ l k in
+    let free = three.0 in
+    let few = s.few in
+    let reserved = s.reserved in
+    let fits : vec_len s.live < vec_capacity s.live = omega arith in
+    let items : vec_items c.insert.new.self ≡ placed front l (live_of s)
+    = when_true (is_ok c.insert.result) (l ∷ live_of s) (live_of s) (vec_items c.insert.new.self) c.insert.ensures.items
+    (c.insert.ensures.succeeds fits) in
+    added front s.table c.add.new.self (value_of c.args.rule) l (live_of s) (vec_items c.insert.new.self) s.used k items

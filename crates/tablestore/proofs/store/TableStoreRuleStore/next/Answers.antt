@@ -1,44 +1,50 @@
 -- The first label, the one behind a label of the indicator, and none behind another.
-use Rattle.std.proofs.Common.{arith}
-use Rattle.tablestore.specs.Views.{live_of}
-use Rattle.tablestore.proofs.RowsProperties.{place_le}
-use Rattle.tablestore.proofs.ViewsProperties.{lawful, next_first, next_behind, next_other}
+use Rattle.std.proofs.Common.{drop, suc, sym, ap, ◌∙◌, add-one, arith}
+use Rattle.rules.specs.Meaning.{first_of, next_in}
+use Rattle.tablestore.specs.Rows.{own, place_in}
+use Rattle.tablestore.specs.Views.{rules_of, live_of}
+use Rattle.tablestore.proofs.RowsProperties.{behind_own, behind_other, own_past, place_found, place_missing}
+use Rattle.tablestore.proofs.ViewsProperties.{lawful}
 use Rattle.tablestore.proofs.store.TableStoreRuleStore.next.Goals as goal
 
-pub overflow_add-place : goal.overflow_add-place
-overflow_add-place c =
-    let s = c.args.self.now in
-    let p = c.place.ensures in
-    let le = place_le c.in-Some.label (live_of s) in
-    let v = s.live.ok.0 in
-    let few = s.few in
-    let sizes = s.sizes in
-    omega arith
-
 pub returns-in-None : goal.returns-in-None
-returns-in-None c =
+returns-in-None c = record { value = rw c.in-None.is c.first_from.ensures; lawful = lawful c.args.self.now }
+
+pub returns-in_ok-place-in-Some : goal.returns-in_ok-place-in-Some
+returns-in_ok-place-in-Some c =
     let s = c.args.self.now in
+    let i = c.args.indicator in
+    let l = c.in-Some.label in
+    let p = c.in_ok-place-in-Some.field-0 in
+    let found = place_found l p (live_of s) (sym c.in_ok-place-in-Some.ensures) in
     record {
-      value = next_first s c.args.indicator.name c.args.indicator.arity c.args.after
-          c.first_from.result c.in-None.is c.first_from.ensures;
+      value = c.first_from-in-Some.ensures
+          ∙ ap (λ n. first_of (own (rules_of s) (drop n (live_of s)) i.name i.arity)) (add-one p ∙ ap suc found.0)
+          ∙ sym (ap (next_in (own (rules_of s) (live_of s) i.name i.arity)) c.in-Some.is
+          ∙ behind_own (rules_of s) l (live_of s) i.name i.arity (sym c.if-is_of.ensures));
       lawful = lawful s;
     }
 
-pub returns-then-is_of : goal.returns-then-is_of
-returns-then-is_of c =
+pub returns-in_err-place-in-Some : goal.returns-in_err-place-in-Some
+returns-in_err-place-in-Some c =
     let s = c.args.self.now in
+    let i = c.args.indicator in
+    let l = c.in-Some.label in
+    let missing = place_missing l (live_of s) (sym c.in_err-place-in-Some.ensures) in
     record {
-      value = next_behind s c.args.indicator.name c.args.indicator.arity c.in-Some.label c.place.result
-          c.args.after c.first_from-then-is_of.result c.in-Some.is c.if-is_of.ensures
-          c.place.ensures c.first_from-then-is_of.ensures;
+      value = c.from_residual.ensures
+          ∙ sym (ap (next_in (own (rules_of s) (live_of s) i.name i.arity)) c.in-Some.is
+          ∙ behind_own (rules_of s) l (live_of s) i.name i.arity (sym c.if-is_of.ensures)
+          ∙ own_past (rules_of s) (live_of s) i.name i.arity (suc (place_in l (live_of s))) (omega arith));
       lawful = lawful s;
     }
 
-pub returns-else-is_of : goal.returns-else-is_of
-returns-else-is_of c =
+pub returns-in-Some-2 : goal.returns-in-Some-2
+returns-in-Some-2 c =
     let s = c.args.self.now in
+    let i = c.args.indicator in
     record {
-      value = next_other s c.args.indicator.name c.args.indicator.arity c.in-Some.label c.args.after
-          c.in-Some.is c.if-is_of.ensures;
+      value = sym (ap (next_in (own (rules_of s) (live_of s) i.name i.arity)) c.in-Some.is
+          ∙ behind_other (rules_of s) c.in-Some.label (live_of s) i.name i.arity (sym c.if-is_of.ensures));
       lawful = lawful s;
     }

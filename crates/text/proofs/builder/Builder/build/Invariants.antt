@@ -7,6 +7,7 @@ use Rattle.text.specs.Builders.{BuiltIn}
 use Rattle.text.proofs.builder.Builder.build.Given as goal
 
 abbrev pub invariant-loop-op : goal.invariant-loop-op
-invariant-loop-op l =
-    Extends (list l.initial.names) (list l.names)
-    × BuiltIn l.text (list l.initial.names) (run l.text (take l.op-index l.ops)) (list l.names) l.self
+invariant-loop-op l = record {
+  kept : Extends (list l.initial.names) (list l.names);
+  built : BuiltIn l.text (list l.initial.names) (run l.text (take l.op-index l.ops)) (list l.names) l.self;
+}

@@ -4,5 +4,5 @@ use Rattle.writing.specs.Writing.{doubled}
 use Rattle.writer.specs.Lines.{line_seen, Puts}
 use Rattle.writer.proofs.line.LineWriter.doubled.Given as goal
 
-abbrev pub invariant-loop-i : goal.invariant-loop-i
-invariant-loop-i l = Puts l.initial.self l.self (doubled (take l.i l.name)) (line_seen l.initial.self) (Ok tt)
+abbrev pub invariant-loop-byte : goal.invariant-loop-byte
+invariant-loop-byte l = Puts l.initial.self l.self (doubled (take l.byte-index l.name)) (line_seen l.initial.self) (Ok tt)

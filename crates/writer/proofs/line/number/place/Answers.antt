@@ -1,22 +1,13 @@
--- The variable stands at the turn, or its place is sought among those after it.
-use Rattle.std.proofs.Common.{◌∙◌, arith}
-use Rattle.writer.proofs.ShownProperties.{place_in_goes, place_in_stops, place_in_end}
+-- The position that the search answers, or the number of variables.
+use Rattle.std.proofs.Common.{rules, tests, ◌==◌, ◌∙◌}
+use Rattle.std.proofs.lemmas.Iterator.{YieldsList-from_slice}
+use Rattle.std.proofs.lemmas.Iterator.Search.{position_from_yields_List}
+use Rattle.writer.proofs.ShownProperties.{place_found}
 use Rattle.writer.proofs.line.number.place.Goals as goal
 
-pub returns-then-seen-i : goal.returns-then-seen-i
-returns-then-seen-i c =
-    let here = place_in_stops c.args.seen.now c.args.variable c.loop-i.i c.loop-i-test.true
-    c.if-seen-i.true in
-    let inv = c.loop-i.invariant in
-    record { value = omega arith; within = omega arith }
-
-pub loop-i-preserved : goal.loop-i-preserved
-loop-i-preserved c =
-    place_in_goes c.args.seen.now c.args.variable c.loop-i.i c.loop-i-test.true c.if-seen-i.false
-    ∙ c.loop-i.invariant
-
-pub returns : goal.returns
-returns c =
-    let gone = place_in_end c.args.seen.now c.args.variable c.loop-i.i c.loop-i-test.false in
-    let inv = c.loop-i.invariant in
-    record { value = omega arith; within = omega arith }
+pub returns-clause-value : goal.returns-clause-value
+returns-clause-value c =
+    c.unwrap_or.ensures
+    ∙ place_found c.args.seen.now c.args.variable c.position.result
+    (position_from_yields_List (λ x. x == c.args.variable) _ _ c.position.result c.position.ensures.ran
+    (YieldsList-from_slice c.args.seen.now cc) (λ x b q k. search (rules, tests)))

@@ -1,107 +1,97 @@
 -- The ring passes the erased label by.
-use Rattle.std.proofs.Common.{◌≡◌, ℕ, ◌+◌, ◌<◌, true, false, length, Some, vec_items, sym, refl, ap, ◌∙◌, subst, arith}
-use Rattle.std.proofs.lemmas.List.{get_or_read}
-use Rattle.std.proofs.lemmas.Bool.{and_left}
-use Rattle.rules.specs.Indicators.{is_one}
+use Rattle.std.proofs.Common.{false, sym, refl, ap, ◌∙◌, subst, arith}
 use Rattle.rules.specs.Meaning.{ever_added}
-use Rattle.chainstore.specs.Entries.{live_at}
-use Rattle.chainstore.specs.Rings.{no_link, after_at, before_at, Bridged}
-use Rattle.chainstore.proofs.EntriesProperties.{live_at_past, live_at_entry, row_of_erased}
-use Rattle.chainstore.proofs.LinkedProperties.{own_label, after_less, before_less}
-use Rattle.chainstore.proofs.ViewsProperties.{row_without}
-use Rattle.chainstore.proofs.ChangesProperties.{erased, ordered_erased, values_erased, flags_erased, after_erased}
-use Rattle.chainstore.proofs.ChangesProperties.{before_erased}
+use Rattle.rules.specs.Tables.{rules_in}
+use Rattle.rules.proofs.TablesProperties.{found, rules_noted, length_noted, within_noted}
+use Rattle.chainstore.specs.declared.note.Note.{Note}
+use Rattle.chainstore.specs.Rows.{row_of}
+use Rattle.chainstore.specs.Linked.{Linked}
+use Rattle.chainstore.specs.Views.{kept_of, links_of}
+use Rattle.chainstore.proofs.RowsProperties.{row_of_erased, without_missing, without_dead}
+use Rattle.chainstore.proofs.LinkedProperties.{linked_erased}
 use Rattle.chainstore.proofs.chain.calls.ChainStoreRuleStore.erase.Goals as goal
-use Rattle.chainstore.proofs.chain.calls.ChainStoreRuleStore.erase.Goals.{then-label-len-via-then-label-len}
-use Rattle.chainstore.proofs.chain.calls.ChainStoreRuleStore.erase.Goals.{then-label-len-via-else-label-len+then-not-index}
 
-pub returns-then-label-len : goal.returns-then-label-len
-returns-then-label-len c =
-    let es = vec_items c.args.self.now.entries in
+pub overflow_add-label : goal.overflow_add-label
+overflow_add-label c =
+    let s = c.args.self.now in
+    let less = (found (kept_of s) c.args.label c.in-Some.note s.within.named (sym c.in-Some.ensures)).less in
+    let few = s.within.few in
+    let small = s.within.small in
+    omega arith
+
+pub remove-requires : goal.remove-requires
+remove-requires c =
+    let s = c.args.self.now in
+    let less = (found (kept_of s) c.args.label c.in-Some.note s.within.named (sym c.in-Some.ensures)).less in
+    let cells = s.cells in
+    omega arith
+
+pub set_note-requires : goal.set_note-requires
+set_note-requires c =
+    let s = c.args.self.now in
+    (found (kept_of s) c.args.label c.in-Some.note s.within.named (sym c.in-Some.ensures)).less
+
+pub invariant_of-self : goal.invariant_of-self
+invariant_of-self c =
+    let s = c.args.self.now in
+    let ks = kept_of s in
     let l = c.args.label in
-    let out : (f a : ℕ) → live_at es l f a ≡ false
-    = λ f a. elim c.then-label-len.branch [
-      | then-label-len-via-then-label-len w ↦ live_at_past es l f a (omega arith)
-      | then-label-len-via-else-label-len+then-not-index w ↦
-          live_at_entry es l f a w.index.result.now (omega arith) w.index.ensures
-          ∙ and_left w.index.result.now.live
-          (is_one w.index.result.now.indicator.name w.index.result.now.indicator.arity f a)
-          w.if-not-index.true
-    ] in
+    let n : Note = record { side = c.in-Some.note.side; live = false } in
+    let h = found ks l c.in-Some.note s.within.named (sym c.in-Some.ensures) in
+    let new = c.set_note.ensures in
+    let kept = ap (λ t. t.kept) new in
+    let long = length_noted ks l n in
+    let cells = s.cells in
+    let same = c.remove.ensures.len in
+    record {
+      within = within_noted s.table c.set_note.new.self l n s.within new;
+      cells = rw kept (omega arith);
+      spare = c.remove.ensures.labels ∙ s.spare ∙ sym (ap (λ t. t.labels) new);
+      flags = s.flags;
+      noted = λ i. s.noted i
+          ∙ sym (ap (λ xs. ever_added (rules_in xs) i.name i.arity) kept
+          ∙ ap (λ vs. ever_added vs i.name i.arity) (rules_noted ks l n));
+      linked = subst (λ xs. Linked xs c.remove.new.self.links) (sym kept)
+          (linked_erased ks l h.kept n (links_of s) c.remove.new.self.links h.less h.is h.small
+          (ap (λ x. x.live) h.note ∙ c.if-note.true) refl s.linked c.remove.ensures.links);
+    }
+
+pub returns-then-note : goal.returns-then-note
+returns-then-note c =
+    let s = c.args.self.now in
+    let ks = kept_of s in
+    let l = c.args.label in
+    let n : Note = record { side = c.in-Some.note.side; live = false } in
+    let h = found ks l c.in-Some.note s.within.named (sym c.in-Some.ensures) in
+    let new = c.set_note.ensures in
+    let kept = ap (λ t. t.kept) new in
+    record {
+      rules = ap rules_in kept ∙ rules_noted ks l n;
+      row = λ f a. ap (λ xs. row_of xs f a) kept ∙ row_of_erased ks l n f a h.less refl;
+      known = λ f a. ap (λ xs. ever_added (rules_in xs) f a) kept
+          ∙ ap (λ vs. ever_added vs f a) (rules_noted ks l n);
+      labels = ap (λ t. t.labels) new;
+      space = ap (λ t. t.space) new;
+    }
+
+pub returns-in_default : goal.returns-in_default
+returns-in_default c =
+    let ks = kept_of c.args.self.now in
     record {
       rules = refl;
-      row = λ f a. row_without es l f a (out f a);
+      row = λ f a. without_missing ks c.args.label f a (sym c.in_default.ensures);
       known = λ f a. refl;
       labels = refl;
       space = refl;
     }
 
-pub bridge-requires : goal.bridge-requires
-bridge-requires c =
-    let s = c.args.self.now in
-    let es = vec_items s.entries in
-    let d = c.index.result.now in
-    let own = own_label es c.args.label d (omega arith) c.index.ensures c.if-not-index.false in
-    let a = after_less es (vec_items s.links) s.after d.indicator (Some c.args.label) own in
-    let b = before_less es (vec_items s.links) s.before d.indicator (Some c.args.label) own in
-    let cells = s.cells in
-    let k = s.entries.ok.0 in
-    let m = s.links.ok.0 in
-    let link = get_or_read (vec_items s.links) (4608 + c.args.label) c.index-link.result.now (omega arith)
-    c.index-link.ensures no_link in
-    let p = ap (λ x. x.before) link in
-    let q = ap (λ x. x.after) link in
-    record { before_in_bounds = omega arith; after_in_bounds = omega arith }
-
-pub invariant_of-self : goal.invariant_of-self
-invariant_of-self c =
-    let s = c.args.self.now in
-    let es = vec_items s.entries in
-    let ls = vec_items s.links in
-    let ms = vec_items c.bridge.new.links in
-    let l = c.args.label in
-    let d = c.index_mut.result.now in
-    let is = c.index_mut.ensures.value in
-    let k = s.entries.ok.0 in
-    let m = s.links.ok.0 in
-    let cells = s.cells in
-    let less : l < length es = omega arith in
-    let live : d.live ≡ true
-    = ap (λ x. x.live) (get_or_read es l d less is c.index.result.now ∙ sym c.index.ensures)
-    ∙ c.if-not-index.false in
-    let link = get_or_read ls (4608 + l) c.index-link.result.now (omega arith) c.index-link.ensures no_link in
-    let new : Bridged ls (before_at ls (4608 + l)) (after_at ls (4608 + l)) ms
-    = subst (λ x. Bridged ls x.before x.after ms) link c.bridge.ensures.links in
-    let ordered = ordered_erased s l d less is in
-    let noted = flags_erased s l d less is in
-    let after = after_erased s l d less is live ms new in
-    let before = before_erased s l d less is live ms new in
+pub returns-else-note : goal.returns-else-note
+returns-else-note c =
+    let ks = kept_of c.args.self.now in
     record {
-      few = omega arith;
-      reserved = omega arith;
-      small = omega arith;
-      filled = omega arith;
-      room = omega arith;
-      short = omega arith;
-      cells = omega arith;
-      spare = omega arith;
-      flags = omega arith;
-      ordered = ordered;
-      noted = noted;
-      after = after;
-      before = before;
-    }
-
-pub returns : goal.returns
-returns c =
-    let s = c.args.self.now in
-    let l = c.args.label in
-    let d = c.index_mut.result.now in
-    let is = c.index_mut.ensures.value in
-    record {
-      rules = values_erased s l d (omega arith) is;
-      row = λ f a. row_of_erased (vec_items s.entries) l (erased d) f a (omega arith) refl;
-      known = λ f a. ap (λ vs. ever_added vs f a) (values_erased s l d (omega arith) is);
+      rules = refl;
+      row = λ f a. without_dead ks c.args.label f a c.in-Some.note (sym c.in-Some.ensures) c.if-note.false;
+      known = λ f a. refl;
       labels = refl;
       space = refl;
     }
