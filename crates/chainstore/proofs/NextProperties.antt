@@ -191,7 +191,8 @@ behind_skip x (y ∷ ys) zs h =
     cond-false (eqb y x) (first_of (ys ++ zs)) (behind x (ys ++ zs)) two.0 ∙ behind_skip x ys zs two.1
 
 -- of two rows joined, the first of the second is next after the last of the first
-join_last_or : (y : ℕ) (ys zs : List ℕ) → distinct (y ∷ ys) ≡ true → behind (last_or y ys) (y ∷ (ys ++ zs)) ≡ first_of zs
+join_last_or : (y : ℕ) (ys zs : List ℕ) → distinct (y ∷ ys) ≡ true
+    → behind (last_or y ys) (y ∷ (ys ++ zs)) ≡ first_of zs
 join_last_or y [] zs d = cond-true (eqb y y) (first_of zs) (behind y zs) (eq-eqb y y refl)
 join_last_or y (w ∷ ws) zs d =
     let two = and_parts (not (holds y (w ∷ ws))) (distinct (w ∷ ws)) d in

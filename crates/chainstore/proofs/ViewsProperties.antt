@@ -1,23 +1,24 @@
 -- What a store means: it is lawful, and its flags and rings say what they should.
 use Rattle.std.proofs.Common.{◌≡◌, ℕ, ◌+◌, ◌-◌, ◌<◌, Bool, true, false, ◌||◌, eqb, ltb, List, [], ◌∷◌, ◌++◌, length}
-use Rattle.std.proofs.Common.{get_or, set, replicate, Some, None, Option, cond, sym, refl, ap, subst, ◌∙◌, inl, inr, arith}
+use Rattle.std.proofs.Common.{get_or, set, replicate, Some, None, Option, is_some, cond, sym, refl, ap, subst, ◌∙◌}
+use Rattle.std.proofs.Common.{inl, inr, arith}
+use Rattle.std.specs.List.{list_all}
+use Rattle.std.specs.Option.{option_flatten}
 use Rattle.std.proofs.lemmas.List.{get_or-set_same, get_or-set_other, get_or-replicate}
 use Rattle.std.proofs.lemmas.Bool.{eqb-true, and_parts, or_left, cases_Bool, cases_eq, cond-true, cond-false, lt-ltb}
 use Rattle.std.proofs.lemmas.Bool.{le-ltb}
 use Rattle.rules.specs.declared.indicator.Indicator.{Indicator}
 use Rattle.rules.specs.declared.rule.Rule.{Rule}
-use Rattle.rules.specs.Indicators.{is_one}
+use Rattle.rules.specs.Indicators.{fits, is_one}
 use Rattle.rules.specs.Meaning.{Value, Lawful, placed, is_of, ever_added, next_in}
 use Rattle.rules.specs.Calls.{value_of}
-use Rattle.rules.specs.Tables.{Table, rules_in, Entered}
+use Rattle.rules.specs.Tables.{Kept, Table, rules_in, note_at, Entered}
 use Rattle.rules.proofs.MeaningProperties.{ever_added_push}
 use Rattle.rules.proofs.EntriesProperties.{length_rules}
-use Rattle.rules.proofs.TablesProperties.{rules_push}
-use Rattle.chainstore.specs.declared.note.Note.{Note}
-use Rattle.chainstore.specs.declared.note.Side.{Side}
-use Rattle.chainstore.specs.declared.rings.Link.{Link}
+use Rattle.rules.proofs.TablesProperties.{rules_push, Found, found}
+use Rattle.chainstore.specs.declared.side.Side.{Side}
 use Rattle.chainstore.specs.declared.chain.ChainStore.{ChainStore}
-use Rattle.chainstore.specs.Rings.{head_of, cell_of, label_of, is_in, after_at, end_of, InsertedAt}
+use Rattle.chainstore.specs.Rings.{Cells, head_of, cell_of, label_of, is_in, after_at, end_of, InsertedAt}
 use Rattle.chainstore.specs.Linked.{Linked}
 use Rattle.chainstore.specs.Rows.{row_of}
 use Rattle.chainstore.specs.Views.{meaning_of, kept_of, links_of}
@@ -42,6 +43,20 @@ label_of_cell h (Some x) l =
     let e : (4608 + x) - 4608 ≡ x = omega arith in
     cond-false (ltb (4608 + x) 4608) None (Some ((4608 + x) - 4608)) (le-ltb (4608 + x) 4608 (omega arith))
     ∙ ap Some e
+
+-- the rule with a label, if it is in its row
+pub record Live (ks : List (Kept (Option Side))) (l : ℕ) : Type 0 where
+  pub side : Side
+  pub found : Found ks l (Some side)
+
+pub live_found : (ks : List (Kept (Option Side))) (l : ℕ) → list_all (λ v. fits v.name v.arity) (rules_in ks) ≡ true
+    → is_some (option_flatten (note_at ks l)) ≡ true → Live ks l
+live_found ks l named live = by (note_at ks l) refl live
+  where
+    by : (n : Option (Option Side)) → note_at ks l ≡ n → is_some (option_flatten n) ≡ true → Live ks l
+    by None is t = absurd (cc)
+    by (Some None) is t = absurd (cc)
+    by (Some (Some side)) is t = record { side = side; found = found ks l (Some side) named is }
 
 abbrev pub Noted : List Bool → List Value → Type 0
 Noted ks vs = (i : Indicator) → get_or ks (head i) false ≡ ever_added vs i.name i.arity
@@ -92,8 +107,8 @@ next_label s i o t =
     ap label_of ((s.linked i).after o t) ∙ label_of_cell (head i) (next_in (row (kept_of s) i) o) (head_less i)
 
 -- a store after a rule was added, and after one was taken out of its row: its facts hold again
-module _ (s : ChainStore) (r : Rule) (side : Side) (l : ℕ) (u : Table Note)
-    (new : Entered s.table (value_of r) (record { side = side; live = true }) l u) where
+module _ (s : ChainStore) (r : Rule) (side : Side) (l : ℕ) (u : Table (Option Side))
+    (new : Entered s.table (value_of r) (Some side) l u) where
   pub rules_added : rules_in u.kept ≡ rules_in s.table.kept ++ value_of r ∷ []
   rules_added = ap rules_in new.kept ∙ rules_push s.table.kept _
 
@@ -117,9 +132,9 @@ module _ (s : ChainStore) (r : Rule) (side : Side) (l : ℕ) (u : Table Note)
       (sym s.known.ok.0 ∙ s.flags) s.noted i
       ∙ ap (λ vs. ever_added vs i.name i.arity) (sym rules_added)
 
-  pub links_added : (h : ℕ) → h ≡ head r.indicator → (ms : List Link)
-      → InsertedAt (end_of side) (links_of s) h ms → Linked u.kept ms
-  links_added h at ms inserted =
-      subst (λ ks. Linked ks ms) (sym new.kept)
-      (linked_added s.table.kept _ (links_of s) ms r.indicator.small refl s.cells s.linked
-      (subst (λ n. InsertedAt (end_of side) (links_of s) n ms) at inserted))
+  pub links_added : (h : ℕ) → h ≡ head r.indicator → (ds : Cells)
+      → InsertedAt (end_of side) s.rings h ds → Linked u.kept ds.links
+  links_added h at ds inserted =
+      subst (λ ks. Linked ks ds.links) (sym new.kept)
+      (linked_added s.table.kept (value_of r) side s.rings ds r.indicator.small s.cells s.linked
+      (subst (λ n. InsertedAt (end_of side) s.rings n ds) at inserted))

@@ -3,7 +3,7 @@ use Rattle.std.specs.Prelude.{◌≡◌, ℕ, true, List, reverse, Option}
 use Rattle.rules.specs.declared.indicator.Indicator.{Indicator}
 use Rattle.rules.specs.Meaning.{next_in}
 use Rattle.rules.specs.Tables.{Kept}
-use Rattle.chainstore.specs.declared.note.Note.{Note}
+use Rattle.chainstore.specs.declared.side.Side.{Side}
 use Rattle.chainstore.specs.declared.rings.Link.{Link}
 use Rattle.chainstore.specs.Rings.{head_of, cell_of, is_in, after_at, before_at}
 use Rattle.chainstore.specs.Rows.{row_of}
@@ -18,5 +18,5 @@ pub record Ring (ls : List Link) (h : ℕ) (xs : List ℕ) : Type 0 where
   pub before : Goes (before_at ls) h (reverse xs)
 
 -- each indicator's ring follows its row
-abbrev pub Linked : List (Kept Note) → List Link → Type 0
+abbrev pub Linked : List (Kept (Option Side)) → List Link → Type 0
 Linked ks ls = (i : Indicator) → Ring ls (head_of i.name i.arity) (row_of ks i.name i.arity)

@@ -2,8 +2,8 @@
 use Rattle.std.specs.Prelude.{◌≡◌, ℕ, ◌+◌, ◌-◌, ◌*◌, ◌<◌, Bool, true, cond, List, reverse, length, Some, None, Option}
 use Rattle.std.specs.Prelude.{◌≢◌, ◌≤◌, nat_lt, slice_index_or}
 use Rattle.rules.specs.Meaning.{End, front, back, holds, next_in}
-use Rattle.chainstore.specs.declared.note.Side.{Side}
-use Rattle.chainstore.specs.declared.note.Side.TheVariants.{Front, Back}
+use Rattle.chainstore.specs.declared.side.Side.{Side}
+use Rattle.chainstore.specs.declared.side.Side.TheVariants.{Front, Back}
 use Rattle.chainstore.specs.declared.rings.Link.{Link}
 
 -- the links of all cells, by cell, and for how many labels there is room
@@ -44,25 +44,30 @@ after_at ls c = (slice_index_or ls c no_link).after
 abbrev pub before_at : List Link → ℕ → ℕ
 before_at ls c = (slice_index_or ls c no_link).before
 
--- a new last cell between p and q
-pub record Inserted (ls : List Link) (p q : ℕ) (ms : List Link) : Type 0 where
-  pub after_new : after_at ms (length ls) ≡ q
-  pub after_before : after_at ms p ≡ length ls
-  pub after_others : (k : ℕ) → k ≢ p → k ≢ length ls → after_at ms k ≡ after_at ls k
-  pub before_new : before_at ms (length ls) ≡ p
-  pub before_after : before_at ms q ≡ length ls
-  pub before_others : (k : ℕ) → k ≢ q → k ≢ length ls → before_at ms k ≡ before_at ls k
+-- one more cell, between p and q; nothing else changes
+pub record Inserted (cs : Cells) (p q : ℕ) (ds : Cells) : Type 0 where
+  pub len : length ds.links ≡ length cs.links + 1
+  pub after_new : after_at ds.links (length cs.links) ≡ q
+  pub after_before : after_at ds.links p ≡ length cs.links
+  pub after_others : (k : ℕ) → k ≢ p → k ≢ length cs.links → after_at ds.links k ≡ after_at cs.links k
+  pub before_new : before_at ds.links (length cs.links) ≡ p
+  pub before_after : before_at ds.links q ≡ length cs.links
+  pub before_others : (k : ℕ) → k ≢ q → k ≢ length cs.links → before_at ds.links k ≡ before_at cs.links k
+  pub labels : ds.labels ≡ cs.labels
 
-abbrev pub InsertedAt : End → List Link → ℕ → List Link → Type 0
-InsertedAt front ls h ms = Inserted ls h (after_at ls h) ms
-InsertedAt back ls h ms = Inserted ls (before_at ls h) h ms
+-- one more cell at an end of the ring with the head h: behind it, or before it
+abbrev pub InsertedAt : End → Cells → ℕ → Cells → Type 0
+InsertedAt front cs h ds = Inserted cs h (after_at cs.links h) ds
+InsertedAt back cs h ds = Inserted cs (before_at cs.links h) h ds
 
--- p and q are neighbours
-pub record Bridged (ls : List Link) (p q : ℕ) (ms : List Link) : Type 0 where
-  pub after_before : after_at ms p ≡ q
-  pub after_others : (k : ℕ) → k ≢ p → after_at ms k ≡ after_at ls k
-  pub before_after : before_at ms q ≡ p
-  pub before_others : (k : ℕ) → k ≢ q → before_at ms k ≡ before_at ls k
+-- p and q are neighbours; nothing else changes
+pub record Bridged (cs : Cells) (p q : ℕ) (ds : Cells) : Type 0 where
+  pub len : length ds.links ≡ length cs.links
+  pub after_before : after_at ds.links p ≡ q
+  pub after_others : (k : ℕ) → k ≢ p → after_at ds.links k ≡ after_at cs.links k
+  pub before_after : before_at ds.links q ≡ p
+  pub before_others : (k : ℕ) → k ≢ q → before_at ds.links k ≡ before_at cs.links k
+  pub labels : ds.labels ≡ cs.labels
 
 -- each link leads to a cell
 pub record IsClosed (ls : List Link) : Type 0 where

@@ -8,19 +8,21 @@ ghost use Rattle.rules.specs.Tables.{rules_in, IsWithin};
 ghost use Rattle.chainstore.specs.Rings.{head_of};
 ghost use Rattle.chainstore.specs.Linked.{Linked};
 
-use crate::note::Note;
 use crate::rings::{HEADS, Rings};
+use crate::side::Side;
 use rules::{MakeFault, RuleTable};
 use std::alloc::Global;
 
 mod calls;
 
-/// The rules with a note on each, and the rings: that of an indicator goes from its head through the cells of its row
-/// and back. Of each head, `known` says whether a rule of its indicator was ever added.
+/// The rules, each with the end at which it was added while it is in its row, and the rings: that of an indicator goes
+/// from its head through the cells of its row and back. Of each head, `known` says whether a rule of its indicator was
+/// ever added.
 #[derive(Drop)]
 pub struct ChainStore {
-    table: RuleTable<Note>,
+    table: RuleTable<Option<Side>>,
     rings: Rings,
+    // a flag for each of the 4,608 indicators, since memory is fixed and a call takes constant time
     known: Vec<bool>,
     ghost within: { IsWithin table },
     ghost cells: { length rings.links ≡ 4608 + length table.kept },

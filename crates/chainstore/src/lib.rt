@@ -3,7 +3,7 @@
 #![tactic(auto)]
 
 pub mod chain;
-mod note;
 mod rings;
+mod side;
 
 pub use chain::ChainStore;

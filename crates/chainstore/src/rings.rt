@@ -4,7 +4,7 @@ ghost use Rattle.std.specs.Prelude.{◌≡◌, ◌+◌, ◌<◌, ◌≤◌, leng
 ghost use Rattle.chainstore.specs.Rings.{head_of, label_of, after_at, before_at, end_of, Alone};
 ghost use Rattle.chainstore.specs.Rings.{Inserted, InsertedAt, Bridged};
 
-use crate::note::Side;
+use crate::side::Side;
 use rules::Indicator;
 use std::alloc::{AllocError, Global};
 use std::marker::Model;
@@ -34,6 +34,7 @@ pub struct Link {
 }
 
 /// The links of all cells, by cell: a label is taken out of its ring in constant time, in memory that was reserved.
+/// `labels` is not read: by it the invariant says for how many cells there is room.
 #[derive(Drop)]
 pub struct Rings {
     links: Vec<Link>,
@@ -60,6 +61,7 @@ impl Rings {
         ensures labels { IfOk result (λ r. r.labels ≡ labels) }
     {
         let mut links = Vec::with_capacity(heap, HEADS + labels)?;
+        // the number is the link itself, and no index
         for head in 0..HEADS as u32 {
             links.push_reserved(Link {
                 before: head,
@@ -81,9 +83,7 @@ impl Rings {
     pub fn add(&mut self, head: u32, side: Side)
         requires head_in_bounds { head < length self.old.links }
         requires room { length self.old.links < 4608 + self.old.labels }
-        ensures len { length self.new.links ≡ length self.old.links + 1 }
-        ensures links { InsertedAt (end_of side) self.old.links head self.new.links }
-        ensures labels { self.new.labels ≡ self.old.labels }
+        ensures { InsertedAt (end_of side) self.old head self.new }
     {
         let link = self.links[head as usize];
         match side {
@@ -95,10 +95,7 @@ impl Rings {
     /// Takes a cell out of its ring.
     pub fn remove(&mut self, cell: u32)
         requires { cell < length self.old.links }
-        ensures len { length self.new.links ≡ length self.old.links }
-        ensures links { Bridged self.old.links (before_at self.old.links cell) (after_at self.old.links cell)
-            self.new.links }
-        ensures labels { self.new.labels ≡ self.old.labels }
+        ensures { Bridged self.old (before_at self.old.links cell) (after_at self.old.links cell) self.new }
     {
         let link = self.links[cell as usize];
         self.bridge(link.before, link.after);
@@ -109,9 +106,7 @@ impl Rings {
         requires before_in_bounds { before < length self.old.links }
         requires after_in_bounds { after < length self.old.links }
         requires room { length self.old.links < 4608 + self.old.labels }
-        ensures len { length self.new.links ≡ length self.old.links + 1 }
-        ensures links { Inserted self.old.links before after self.new.links }
-        ensures labels { self.new.labels ≡ self.old.labels }
+        ensures { Inserted self.old before after self.new }
     {
         let cell = self.links.len() as u32;
         self.links.push_reserved(Link { before, after });
@@ -123,9 +118,7 @@ impl Rings {
     fn bridge(&mut self, before: u32, after: u32)
         requires before_in_bounds { before < length self.old.links }
         requires after_in_bounds { after < length self.old.links }
-        ensures len { length self.new.links ≡ length self.old.links }
-        ensures links { Bridged self.old.links before after self.new.links }
-        ensures labels { self.new.labels ≡ self.old.labels }
+        ensures { Bridged self.old before after self.new }
     {
         self.links[before as usize].after = after;
         self.links[after as usize].before = before;

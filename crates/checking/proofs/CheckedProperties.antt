@@ -8,8 +8,8 @@ use Rattle.tokens.proofs.BytesProperties.{false_true}
 use Rattle.writer.specs.declared.fault.DoesNotFit.{DoesNotFit}
 use Rattle.writer.specs.declared.line.LineWriter.{LineWriter}
 use Rattle.terms.specs.Term.{Term}
-use Rattle.writer.specs.Lines.{line_bytes, line_seen, line_limit, fits, Added, TermAdded, TextAdded}
-use Rattle.writer.specs.Shown.{shown, firsts}
+use Rattle.writer.specs.Lines.{line_bytes, line_seen, line_limit, fits, Added, TermAdded}
+use Rattle.writer.specs.Shown.{shown}
 use Rattle.checking.specs.Checked.{WroteAs}
 
 -- a piece that does not fit is part of a text that is too long

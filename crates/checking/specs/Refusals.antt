@@ -4,10 +4,8 @@ use Rattle.tokens.specs.declared.scan.TokenFault.TheVariants as token
 use Rattle.reader.specs.declared.fault.TermFault.TheVariants as term
 use Rattle.reader.specs.declared.fault.LineFault.{LineFault}
 use Rattle.reader.specs.declared.fault.LineFault.TheVariants as line
-use Rattle.text.specs.declared.fault.LimitFault.{LimitFault}
-use Rattle.text.specs.declared.fault.LimitFault.TheVariants.{Integer, LongName, Arguments, Variables, Nodes, Names}
-use Rattle.text.specs.declared.fault.HeadFault.{HeadFault}
-use Rattle.text.specs.declared.fault.HeadFault.TheVariants.{VariableHead, IntegerHead, BuiltInHead, IntegerBody}
+use Rattle.reader.specs.Faults.{line_text}
+use Rattle.text.specs.Sentences.{head_sentence, limit_sentence}
 use Rattle.text.specs.declared.fault.TextFault.{TextFault}
 use Rattle.text.specs.declared.fault.TextFault.TheVariants.{TooLong, Grammar, Limit, Head}
 use Rattle.checking.specs.declared.line.LineProblem.{LineProblem}
@@ -53,29 +51,10 @@ abbrev pub line_sentence : LineProblem → List ℕ
 line_sentence (problem.BadByte p) = codes "The line has a byte that is no printable ASCII character."
 line_sentence problem.TooLong = codes "The line is longer than 1019 bytes."
 
-abbrev pub grammar_sentence : LineFault → List ℕ
-grammar_sentence (line.Term (term.Token (token.Stray p))) = codes "No token begins with this character here."
-grammar_sentence (line.Term (term.Token (token.Unclosed p))) = codes "A quoted name is not closed."
-grammar_sentence (line.Term (term.Unexpected p n)) = codes "The term inside the brackets cannot go on like this."
-grammar_sentence (line.Unexpected p) = codes "The rule cannot go on like this."
-
-abbrev pub limit_sentence : LimitFault → List ℕ
-limit_sentence Integer = codes "An integer does not fit into 32 bits."
-limit_sentence LongName = codes "A name is longer than 64 bytes."
-limit_sentence Arguments = codes "A term has more than 8 arguments."
-limit_sentence Variables = codes "The rule has more than 32 variables."
-limit_sentence Nodes = codes "The rule has more than 256 nodes."
-limit_sentence Names = codes "The table of names is full."
-
-abbrev pub head_sentence : HeadFault → List ℕ
-head_sentence VariableHead = codes "The head is a variable."
-head_sentence IntegerHead = codes "The head is an integer."
-head_sentence BuiltInHead = codes "The head is a built-in predicate."
-head_sentence IntegerBody = codes "The body is an integer."
-
+-- what is said of a text that is longer than any is said of the line; every other fault says it itself
 abbrev pub text_sentence : TextFault → List ℕ
 text_sentence TooLong = line_sentence problem.TooLong
-text_sentence (Grammar f) = grammar_sentence f
+text_sentence (Grammar f) = line_text f
 text_sentence (Limit f) = limit_sentence f
 text_sentence (Head f) = head_sentence f
 

@@ -1,6 +1,6 @@
 //! One line of input, of which no more is kept than a line may have.
 
-ghost use Rattle.std.specs.Prelude.{◌≡◌, ℕ, List, [], ◌∷◌, ◌++◌, IfOk};
+ghost use Rattle.std.specs.Prelude.{◌≡◌, ◌≤◌, ℕ, List, [], ◌∷◌, ◌++◌, length, IfOk};
 ghost use Rattle.checking.specs.Lines.{Keeps, is_blank, is_skipped, problem_of, first_after, bad_from};
 
 use std::alloc::{AllocError, Global};
@@ -17,6 +17,7 @@ pub enum LineProblem {
 }
 
 /// The first bytes of a line, one more than a line may have where it is longer, and its first byte that is no space.
+/// One buffer, since memory is fixed: it is reserved when the line is made.
 #[derive(Drop)]
 pub struct LineBuffer {
     bytes: Vec<u8>,
@@ -70,9 +71,10 @@ impl LineBuffer {
         self.bytes.is_empty()
     }
 
-    /// The bytes of the line, as far as they are kept.
+    /// The bytes of the line, or of a longer one its first.
     pub fn bytes(&self) -> &[u8]
-        ensures { result.now ≡ self.now.bytes }
+        ensures value { result.now ≡ self.now.bytes }
+        ensures short { length result.now ≤ 1019 }
     {
         &self.bytes[..MAX_LINE.min(self.bytes.len())]
     }

@@ -1,18 +1,18 @@
 //! Why a line is refused: the number, the place and kind of a fault of the grammar, and a sentence for the owner.
 
 ghost use Rattle.std.specs.Prelude.{◌≡◌, Some};
-ghost use Rattle.checking.specs.Refusals.{number_of, fault_of, word_of, sentence_of, line_sentence, grammar_sentence};
-ghost use Rattle.checking.specs.Refusals.{limit_sentence, head_sentence, grammar_fault};
+ghost use Rattle.checking.specs.Refusals.{number_of, fault_of, word_of, sentence_of, line_sentence, grammar_fault};
 ghost use Rattle.checking.specs.declared.refusal.Refusal.TheVariants.{Line as of_line, Text as of_text};
 
 use crate::line::LineProblem;
 use reader::fault::{LineFault, TermFault};
+use std::error::Error;
 use std::fmt;
-use text::{HeadFault, LimitFault, TextFault};
+use text::TextFault;
 use tokens::scan::TokenFault::{Stray, Unclosed};
 
 /// A line that is refused whatever it says, or a text that is no rule.
-#[derive(Clone, Copy)]
+#[derive(Clone, Copy, Debug, PartialEq, Eq)]
 pub enum Refusal {
     Line(LineProblem),
     Text(TextFault),
@@ -98,62 +98,30 @@ impl Refusal {
     }
 }
 
+impl fmt::Display for LineProblem {
+    ghost output = { λ problem. Some (line_sentence problem) };
+
+    fn fmt<W: fmt::Write>(&self, f: &mut fmt::Formatter<W>) -> fmt::Result {
+        f.write_str(match self {
+            LineProblem::BadByte(_) => "The line has a byte that is no printable ASCII character.",
+            LineProblem::TooLong => "The line is longer than 1019 bytes.",
+        })
+    }
+}
+
+impl Error for LineProblem {}
+
 // What is wrong, in a sentence.
 impl fmt::Display for Refusal {
     ghost output = { λ refusal. Some (sentence_of refusal) };
 
     fn fmt<W: fmt::Write>(&self, f: &mut fmt::Formatter<W>) -> fmt::Result {
-        f.write_str(match *self {
-            Refusal::Line(problem) => line_sentence(problem),
-            Refusal::Text(TextFault::TooLong) => line_sentence(LineProblem::TooLong),
-            Refusal::Text(TextFault::Grammar(fault)) => grammar_sentence(fault),
-            Refusal::Text(TextFault::Limit(fault)) => limit_sentence(fault),
-            Refusal::Text(TextFault::Head(fault)) => head_sentence(fault),
-        })
+        match self {
+            Refusal::Line(problem) => write!(f, "{problem}"),
+            Refusal::Text(TextFault::TooLong) => LineProblem::TooLong.fmt(f),
+            Refusal::Text(text_fault) => write!(f, "{text_fault}"),
+        }
     }
 }
 
-fn line_sentence(problem: LineProblem) -> &'static str
-    ensures { result.now ≡ line_sentence problem }
-{
-    match problem {
-        LineProblem::BadByte(_) => "The line has a byte that is no printable ASCII character.",
-        LineProblem::TooLong => "The line is longer than 1019 bytes.",
-    }
-}
-
-fn grammar_sentence(fault: LineFault) -> &'static str
-    ensures { result.now ≡ grammar_sentence fault }
-{
-    match fault {
-        LineFault::Term(TermFault::Token(Stray(_))) => "No token begins with this character here.",
-        LineFault::Term(TermFault::Token(Unclosed(_))) => "A quoted name is not closed.",
-        LineFault::Term(TermFault::Unexpected { .. }) =>
-            "The term inside the brackets cannot go on like this.",
-        LineFault::Unexpected(_) => "The rule cannot go on like this.",
-    }
-}
-
-fn limit_sentence(fault: LimitFault) -> &'static str
-    ensures { result.now ≡ limit_sentence fault }
-{
-    match fault {
-        LimitFault::Integer => "An integer does not fit into 32 bits.",
-        LimitFault::LongName => "A name is longer than 64 bytes.",
-        LimitFault::Arguments => "A term has more than 8 arguments.",
-        LimitFault::Variables => "The rule has more than 32 variables.",
-        LimitFault::Nodes => "The rule has more than 256 nodes.",
-        LimitFault::Names => "The table of names is full.",
-    }
-}
-
-fn head_sentence(fault: HeadFault) -> &'static str
-    ensures { result.now ≡ head_sentence fault }
-{
-    match fault {
-        HeadFault::VariableHead => "The head is a variable.",
-        HeadFault::IntegerHead => "The head is an integer.",
-        HeadFault::BuiltInHead => "The head is a built-in predicate.",
-        HeadFault::IntegerBody => "The body is an integer.",
-    }
-}
+impl Error for Refusal {}

@@ -1,5 +1,8 @@
 //! Why a name is not added to a table.
 
+ghost use Rattle.std.specs.Prelude.{Some};
+ghost use Rattle.names.specs.Faults.{fault_text};
+
 use std::error::Error;
 use std::fmt;
 
@@ -11,6 +14,8 @@ pub enum NameFault {
 }
 
 impl fmt::Display for NameFault {
+    ghost output = { λ fault. Some (fault_text fault) };
+
     fn fmt<W: fmt::Write>(&self, f: &mut fmt::Formatter<W>) -> fmt::Result {
         f.write_str(match self {
             NameFault::TooLong => "the name has more than 64 bytes",

@@ -1,7 +1,8 @@
--- Faults of a text: the place of the first bad byte, and the kind.
-use Rattle.std.specs.Prelude.{ℕ, cond, ◌==◌}
+-- Faults of a text: the place of the first bad byte, the kind, and what is said.
+use Rattle.std.specs.Prelude.{ℕ, List, codes, cond, ◌==◌}
 use Rattle.tokens.specs.declared.scan.TokenFault.{TokenFault}
 use Rattle.tokens.specs.declared.scan.TokenFault.TheVariants as token_fault
+use Rattle.tokens.specs.Faults.{token_text}
 use Rattle.grammar.specs.Faults.{FaultKind, in_token, in_term, in_line}
 use Rattle.reader.specs.declared.fault.TermFault.{TermFault}
 use Rattle.reader.specs.declared.fault.TermFault.TheVariants as term_fault
@@ -35,3 +36,12 @@ term_kind (term_fault.Unexpected p n) = in_term
 abbrev pub line_kind : LineFault → FaultKind
 line_kind (line_fault.Term f) = term_kind f
 line_kind (line_fault.Unexpected p) = in_line
+
+-- what is said of a fault
+abbrev pub term_text : TermFault → List ℕ
+term_text (term_fault.Token e) = token_text e
+term_text (term_fault.Unexpected p n) = codes "The term inside the brackets cannot go on like this."
+
+abbrev pub line_text : LineFault → List ℕ
+line_text (line_fault.Term f) = term_text f
+line_text (line_fault.Unexpected p) = codes "The rule cannot go on like this."

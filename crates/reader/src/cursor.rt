@@ -1,6 +1,6 @@
 //! A line as it is read: how far, and the steps that build what was read.
 
-ghost use Rattle.std.specs.Prelude.{◌≡◌, ◌≢◌, ◌+◌, ◌<◌, ◌≤◌, true, length, drop, vec_len, vec_capacity};
+ghost use Rattle.std.specs.Prelude.{◌≡◌, ◌≢◌, ◌+◌, ◌<◌, ◌≤◌, true, [], length, drop, vec_len, vec_capacity};
 ghost use Rattle.tokens.specs.declared.kind.Kind.TheVariants.{Stray as a_stray};
 ghost use Rattle.tokens.specs.Scanning.{head_kind, Inside};
 ghost use Rattle.grammar.specs.Places.{first_is};
@@ -32,6 +32,7 @@ impl<'a> Cursor<'a> {
     pub fn new(line: &'a [u8], memory: &mut Vec<Op>) -> Cursor<'a>
         requires { length line.now ≤ vec_capacity memory.old }
         ensures starts { Starts line.now result }
+        ensures taken { memory.new.items ≡ [] }
         ensures same_room { vec_capacity result.ops ≡ vec_capacity memory.old }
     {
         let heap = *memory.allocator();

@@ -1,7 +1,7 @@
 //! Faults of a text, each inside the next: of a token, of a term, of the line.
 
-ghost use Rattle.std.specs.Prelude.{◌≡◌};
-ghost use Rattle.reader.specs.Faults.{line_of};
+ghost use Rattle.std.specs.Prelude.{◌≡◌, Some};
+ghost use Rattle.reader.specs.Faults.{line_of, line_text, term_text};
 ghost use Rattle.reader.specs.Reading.{Faulted};
 ghost use Rattle.reader.specs.declared.fault.TermFault.TheVariants.{Token as of_token};
 
@@ -65,13 +65,14 @@ impl From<TermFault> for LineFault {
 }
 
 impl fmt::Display for TermFault {
+    ghost output = { λ fault. Some (term_text fault) };
+
     fn fmt<W: fmt::Write>(&self, f: &mut fmt::Formatter<W>) -> fmt::Result {
         match self {
-            TermFault::Token(fault) => fault.fmt(f),
-            TermFault::Unexpected { at, left: _ } => write!(
-                f,
-                "the term cannot go on like this at {at}"
-            ),
+            TermFault::Token(fault) => write!(f, "{fault}"),
+            TermFault::Unexpected { .. } => {
+                write!(f, "The term inside the brackets cannot go on like this.")
+            }
         }
     }
 }
@@ -79,10 +80,12 @@ impl fmt::Display for TermFault {
 impl Error for TermFault {}
 
 impl fmt::Display for LineFault {
+    ghost output = { λ fault. Some (line_text fault) };
+
     fn fmt<W: fmt::Write>(&self, f: &mut fmt::Formatter<W>) -> fmt::Result {
         match self {
-            LineFault::Term(fault) => fault.fmt(f),
-            LineFault::Unexpected(at) => write!(f, "the line cannot go on like this at {at}"),
+            LineFault::Term(fault) => write!(f, "{fault}"),
+            LineFault::Unexpected(_) => write!(f, "The rule cannot go on like this."),
         }
     }
 }

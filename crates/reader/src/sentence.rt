@@ -27,6 +27,8 @@ pub fn read_rule(line: &[u8], ops: &mut Vec<Op>) -> Result<Shape, LineFault>
 }
 
 /// The query that the line is: `ops` build its goals. No space stands before it.
+/// The twin of `read_rule` but for one call; a closure over the cursor would be no plainer.
+/// `ops` is the caller's memory, so both say that its room stays.
 pub fn read_query(line: &[u8], ops: &mut Vec<Op>) -> Result<(), LineFault>
     requires { length line.now ≤ vec_capacity ops.old }
     ensures read { QueryRead line.now ops.new.items result }

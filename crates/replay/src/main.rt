@@ -32,6 +32,7 @@ fn tell_label<W: Write>(out: &mut W, answer: Option<u32>) -> anyhow::Result<()> 
     Ok(())
 }
 
+// Other words than `tell_label` has, for another answer.
 fn tell_added<W: Write>(out: &mut W, answer: Result<u32, Full>) -> anyhow::Result<()> {
     match answer {
         Ok(label) => writeln!(out, " label {label}")?,
@@ -101,15 +102,13 @@ fn obey<S: RuleStore, W: Write>(
             tell_rule(out, store.read(label))
         }
         Call::Erase(label) => {
-            writeln!(out, "erase {label}")?;
             store.erase(label);
-            Ok(())
+            Ok(writeln!(out, "erase {label}")?)
         }
         Call::Known(indicator) => {
             tell_call(out, "known", indicator)?;
             let known = store.is_known(indicator);
-            writeln!(out, " {known}")?;
-            Ok(())
+            Ok(writeln!(out, " {known}")?)
         }
     }
 }

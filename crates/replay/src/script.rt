@@ -50,6 +50,7 @@ impl Script {
         let indicator = self.indicator()?;
         let label = self.draw(520);
         let size = self.draw(16);
+        // numbers are matched here, since a draw from 0 to 15 decides, and each call has its share of the 16
         Some(match kind {
             0..=2 => Call::AddFront(indicator, size),
             3..=6 => Call::AddBack(indicator, size),

@@ -1,6 +1,6 @@
 -- What holds of every table stays so.
 use Rattle.std.proofs.Common.{◌≡◌, ℕ, zero, suc, ◌+◌, ◌<◌, ◌≤◌, true, ◌&&◌, ◌++◌, List, [], ◌∷◌, length}
-use Rattle.std.proofs.Common.{Some, None, get_or, ltb, leb, refl, ap}
+use Rattle.std.proofs.Common.{Some, get_or, ltb, leb, refl, ap}
 use Rattle.std.proofs.Common.{arith}
 use Rattle.std.specs.List.{list_all}
 use Rattle.std.proofs.lemmas.List.{length_push}
@@ -43,11 +43,6 @@ module _ {T : Type 0} where
       let rest = (and_parts (fits k.rule.name k.rule.arity) (list_all (λ v. fits v.name v.arity) (rules_in ks)) t).1 in
       let h = found ks l n rest e in
       record { kept = h.kept; less = let s = h.less in omega arith; is = h.is; note = h.note; small = h.small }
-
-  pub note_missing : (ks : List (Kept T)) (l : ℕ) → note_at ks l ≡ None → length ks ≤ l
-  note_missing [] l e = omega arith
-  note_missing (k ∷ ks) zero e = absurd (cc)
-  note_missing (k ∷ ks) (suc l) e = let h = note_missing ks l e in omega arith
 
   pub rules_push : (ks : List (Kept T)) (k : Kept T) → rules_in (ks ++ k ∷ []) ≡ rules_in ks ++ k.rule ∷ []
   rules_push [] k = refl

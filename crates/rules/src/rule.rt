@@ -5,7 +5,7 @@ use terms::Node;
 
 /// The nodes of head and body, arguments first, the places of the two, the number of variables, and the head's
 /// indicator.
-#[derive(Clone, Copy)]
+#[derive(Clone, Copy, Debug, PartialEq, Eq)]
 pub struct Rule<'a> {
     pub nodes: &'a [Node],
     pub head: u32,

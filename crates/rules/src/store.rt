@@ -10,10 +10,12 @@ use crate::indicator::Indicator;
 use crate::rule::Rule;
 
 pub trait RuleStore {
-    // every rule ever added by its label, for each indicator the row of labels of its live rules, and the known indicators
+    // every rule ever added by its label, for each indicator the row of labels of its live rules,
+    // and the known indicators
     ghost meaning: { Self → Meaning };
 
-    /// Adds the rule before all others of its indicator, under the next label. Full, changing nothing, if it has no room.
+    /// Adds the rule before all others of its indicator, under the next label.
+    /// Full, changing nothing, if it has no room.
     fn add_front(&mut self, rule: Rule<'_>) -> Result<u32, Full>
         ensures { Adds front (meaning self.old) (value_of rule.entry) result (meaning self.new) };
 

@@ -16,6 +16,7 @@ use terms::Node;
 
 /// The rules by label, each with a note, and the nodes of all rules one behind the other, in the order of the labels.
 /// All memory is reserved when a table is made.
+/// Nodes in one run and no boxes, since memory is fixed.
 #[derive(Drop)]
 pub struct RuleTable<T> {
     nodes: Vec<Node>,

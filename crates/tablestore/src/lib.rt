@@ -1,4 +1,4 @@
-//! A rule store that walks one table.
+//! A rule store that walks one row of live labels.
 
 #![tactic(auto)]
 

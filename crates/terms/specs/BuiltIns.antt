@@ -1,6 +1,6 @@
 -- The 29 built-in predicates: by the place of their name among the known ones, and by the name itself.
 use Rattle.std.specs.Prelude.{ℕ, Bool, false, cond, ◌&&◌, ◌||◌, List, [], ◌∷◌, codes, ◌==◌, nat_le, nat_lt, slice_index}
-use Rattle.std.specs.Prelude.{◌≡◌, ◌≤◌, Result, MatchResult}
+use Rattle.std.specs.Prelude.{◌≡◌, ◌≤◌, ◌++◌, Result, MatchResult, decimal}
 use Rattle.terms.specs.declared.built_in.BuiltIn.{BuiltIn}
 use Rattle.terms.specs.declared.built_in.BuiltIn.TheVariants.{True, Fail, False, And, Or, Cut, Call, Not, Catch, Throw}
 use Rattle.terms.specs.declared.built_in.BuiltIn.TheVariants.{FindAll, Unify, Is, Equal, NotEqual, Less, AtMost, Greater}
@@ -47,6 +47,10 @@ place Retract = 21
 -- the built-in predicate whose name has this place, or the place itself where no such name has it
 abbrev pub NamedBy : ℕ → Result BuiltIn NotBuiltIn → Type 0
 NamedBy f r = MatchResult r (λ b. place b ≡ f) (λ e. (e.0 ≡ f) × (22 ≤ f))
+
+-- what is said where the name at a place is none of them
+abbrev pub fault_text : NotBuiltIn → List ℕ
+fault_text e = codes "the name at " ++ decimal e.0 ++ codes " is not that of a built-in predicate"
 
 -- whether a name is one of these
 abbrev pub one_of : List ℕ → List (List ℕ) → Bool

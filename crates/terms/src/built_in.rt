@@ -1,7 +1,7 @@
 //! The built-in predicates by the place of their name among the known ones.
 
-ghost use Rattle.std.specs.Prelude.{◌≡◌};
-ghost use Rattle.terms.specs.BuiltIns.{NamedBy, built_in, place};
+ghost use Rattle.std.specs.Prelude.{◌≡◌, Some};
+ghost use Rattle.terms.specs.BuiltIns.{NamedBy, built_in, fault_text, place};
 
 use crate::known::MAX_ARGUMENTS;
 use std::error::Error;
@@ -101,6 +101,8 @@ impl BuiltIn {
 }
 
 impl fmt::Display for NotBuiltIn {
+    ghost output = { λ fault. Some (fault_text fault) };
+
     fn fmt<W: fmt::Write>(&self, f: &mut fmt::Formatter<W>) -> fmt::Result {
         write!(
             f,

@@ -14,6 +14,7 @@ use crate::row::Row;
 
 /// Appends a copy of the whole term at `at` and answers its place; parts that are shared are copied at each place.
 /// None, with the target as it was, exactly where there is no such term or it does not fit.
+/// Two names for one function, since a caller knows which form it wants.
 pub fn copy_term(source: &Row, at: u32, target: &mut Row) -> Option<u32>
     ensures { CopiedIn Any (λ t. t) source.now at target.old target.new result }
 {
@@ -52,6 +53,7 @@ fn lay(source: &Row, at: u32, form: Form, target: &mut Row) -> Option<u32>
     match node {
         Node::App { name, arity, args } => {
             let inner = passes_on(form, name, arity);
+            // eight places, as a node has; by number, since nothing is known of them behind an adapter of `iter_mut`
             let mut places = [0u32; 8];
             for (k, argument) in args[..arity as usize].iter().enumerate() {
                 places[k] = lay(source, *argument, inner, target)?;

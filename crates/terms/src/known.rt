@@ -6,6 +6,7 @@ ghost use Rattle.terms.specs.BuiltIns.{built_in, is_built_in};
 
 use crate::built_in::BuiltIn;
 
+// Numbers and no variants of `BuiltIn`: a node holds any name by its number, that of a predicate or not.
 pub const TRUE: u16 = 0;
 
 pub const COMMA: u16 = 3;

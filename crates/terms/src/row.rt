@@ -10,6 +10,7 @@ mod read;
 
 /// At most `limit` nodes, of which each has at most eight arguments, and they stand before it.
 /// Ghost fields and no model, which would be no plainer: crates above read from a row itself that its nodes fit.
+/// Nodes by number and no boxes, since memory is fixed: all of it is reserved when the row is made.
 #[derive(Drop)]
 pub struct Row {
     nodes: Vec<Node>,

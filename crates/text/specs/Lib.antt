@@ -5,5 +5,6 @@ pub mod Building
 pub mod Builders
 pub mod Rules
 pub mod Faults
+pub mod Sentences
 pub mod Finishing
 pub mod Readers

@@ -12,6 +12,7 @@ mod steps;
 
 /// The nodes so far, the places of the terms that are not yet part of another, and the variables in the order
 /// in which they were met.
+/// Four buffers, since memory is fixed: all of it is reserved when the builder is made.
 #[derive(Drop)]
 pub struct Builder {
     row: Row,

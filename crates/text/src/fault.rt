@@ -1,7 +1,8 @@
 //! Why a text is not taken as a rule or query.
 
-ghost use Rattle.std.specs.Prelude.{◌≡◌};
+ghost use Rattle.std.specs.Prelude.{◌≡◌, Some};
 ghost use Rattle.text.specs.Faults.{limit_of};
+ghost use Rattle.text.specs.Sentences.{head_sentence, limit_sentence, text_sentence};
 ghost use Rattle.text.specs.declared.fault.TextFault.TheVariants.{Grammar as in_grammar, Limit as in_limits};
 
 use names::NameFault;
@@ -66,40 +67,44 @@ impl From<LimitFault> for TextFault {
 }
 
 impl fmt::Display for LimitFault {
+    ghost output = { λ fault. Some (limit_sentence fault) };
+
     fn fmt<W: fmt::Write>(&self, f: &mut fmt::Formatter<W>) -> fmt::Result {
-        let text = match self {
-            LimitFault::Integer => "an integer does not fit into 32 bits",
-            LimitFault::LongName => "a name is longer than 64 bytes",
-            LimitFault::Arguments => "a term has more than 8 arguments",
-            LimitFault::Variables => "there are more than 32 variables",
-            LimitFault::Nodes => "there are more than 256 nodes",
-            LimitFault::Names => "the table of names is full",
-        };
-        write!(f, "{text}")
+        f.write_str(match self {
+            LimitFault::Integer => "An integer does not fit into 32 bits.",
+            LimitFault::LongName => "A name is longer than 64 bytes.",
+            LimitFault::Arguments => "A term has more than 8 arguments.",
+            LimitFault::Variables => "The rule has more than 32 variables.",
+            LimitFault::Nodes => "The rule has more than 256 nodes.",
+            LimitFault::Names => "The table of names is full.",
+        })
     }
 }
 
 impl Error for LimitFault {}
 
 impl fmt::Display for HeadFault {
+    ghost output = { λ fault. Some (head_sentence fault) };
+
     fn fmt<W: fmt::Write>(&self, f: &mut fmt::Formatter<W>) -> fmt::Result {
-        let text = match self {
-            HeadFault::VariableHead => "the head is a variable",
-            HeadFault::IntegerHead => "the head is an integer",
-            HeadFault::BuiltInHead => "the head is a built-in predicate",
-            HeadFault::IntegerBody => "the body is an integer",
-        };
-        write!(f, "{text}")
+        f.write_str(match self {
+            HeadFault::VariableHead => "The head is a variable.",
+            HeadFault::IntegerHead => "The head is an integer.",
+            HeadFault::BuiltInHead => "The head is a built-in predicate.",
+            HeadFault::IntegerBody => "The body is an integer.",
+        })
     }
 }
 
 impl Error for HeadFault {}
 
 impl fmt::Display for TextFault {
+    ghost output = { λ fault. Some (text_sentence fault) };
+
     fn fmt<W: fmt::Write>(&self, f: &mut fmt::Formatter<W>) -> fmt::Result {
         match self {
-            TextFault::TooLong => write!(f, "the text is longer than 1024 bytes"),
-            TextFault::Grammar(line) => write!(f, "{line}"),
+            TextFault::TooLong => write!(f, "The text is longer than 1024 bytes."),
+            TextFault::Grammar(grammar) => write!(f, "{grammar}"),
             TextFault::Limit(limit) => write!(f, "{limit}"),
             TextFault::Head(head) => write!(f, "{head}"),
         }

@@ -57,6 +57,7 @@ fn head_fault(head: Option<Node>) -> Option<HeadFault>
 }
 
 // Why a rule with this body cannot be stored.
+// Apart from `head_fault`, which asks of other cases.
 fn body_fault(body: Option<Node>) -> Option<HeadFault>
     ensures { result ≡ body_node_fault body }
 {
@@ -75,6 +76,7 @@ fn places_fault(row: &Row, head: u32, body: u32) -> Option<HeadFault>
 }
 
 /// The rule that was built, if it can be stored.
+/// Two terms and their faults, where `finish_query` has one term, so the two share `copy_goal` alone.
 pub fn finish_rule(builder: &Builder, row: &mut Row) -> Result<RuleText, TextFault>
     ensures finished { FinishesRule builder.now row.old row.new result }
     ensures limit { SameLimit row.old row.new }

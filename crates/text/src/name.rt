@@ -8,6 +8,7 @@ use crate::fault::LimitFault;
 use terms::known::MAX_NAME;
 
 /// Writes the bytes of a quoted name, each doubled quote as one, into the buffer, unless they are more than 64.
+/// The buffer is the builder's memory, so the room is said here and not by a type.
 pub fn unquote(inside: &[u8], buffer: &mut Vec<u8>) -> Result<(), LimitFault>
     requires { 64 ≤ vec_capacity buffer.old }
     ensures room { vec_capacity buffer.new ≡ vec_capacity buffer.old }
@@ -17,6 +18,7 @@ pub fn unquote(inside: &[u8], buffer: &mut Vec<u8>) -> Result<(), LimitFault>
 {
     buffer.clear();
     let mut rest = inside;
+    // a slice pattern takes a doubled quote as one byte; an iterator would need a state beside it
     loop {
         let (byte, behind) = match rest {
             [] | [b'\''] => return Ok(()),

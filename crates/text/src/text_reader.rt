@@ -11,6 +11,7 @@ mod read;
 pub const MAX_TEXT: usize = 1024;
 
 /// The memory that reading needs, reserved when the reader is made.
+/// It is fixed: nothing allocates afterwards.
 #[derive(Drop)]
 pub struct TextReader {
     ops: Vec<Op>,

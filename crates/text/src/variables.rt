@@ -29,6 +29,7 @@ fn is_lone(name: &[u8]) -> bool
 }
 
 /// The number of a variable: that of an earlier one of the same name, else the next; `_` is always new.
+/// The variables are the builder's memory, so the room is said here and not by a type.
 pub fn number(variables: &mut Vec<Span>, text: &[u8], span: Span) -> Result<u32, LimitFault>
     requires few { vec_len variables.old ≤ 32 }
     requires room { 32 ≤ vec_capacity variables.old }

@@ -1,3 +1,4 @@
 pub mod Bytes
 pub mod Token
 pub mod Scanning
+pub mod Faults

@@ -66,6 +66,7 @@ pub fn in_run(run: Run, b: u8) -> bool
     }
 }
 
+// Which bytes go on is another question than what a byte begins (`kind_of`), so the ranges stand in both.
 fn is_word(b: u8) -> bool
     ensures { result ≡ word b }
 {

@@ -1,7 +1,8 @@
 //! The token behind a place of a line.
 
-ghost use Rattle.std.specs.Prelude.{◌≡◌, ◌≢◌, ◌+◌, ◌-◌, ◌<◌, ◌≤◌, length, take, drop};
+ghost use Rattle.std.specs.Prelude.{◌≡◌, ◌≢◌, ◌+◌, ◌-◌, ◌<◌, ◌≤◌, Some, length, take, drop};
 ghost use Rattle.tokens.specs.Bytes.{in_run, past};
+ghost use Rattle.tokens.specs.Faults.{token_text};
 ghost use Rattle.tokens.specs.declared.kind.Kind.TheVariants.{Symbol as a_symbol, Space as a_space};
 ghost use Rattle.tokens.specs.Scanning.{head_kind, Inside, QuoteRead, TokenRead, StartsAs, StandsAt};
 
@@ -43,21 +44,22 @@ pub enum TokenFault {
     Unclosed(usize),
 }
 
+// In a sentence, for the owner of the line, who is shown the place itself.
 impl fmt::Display for TokenFault {
+    ghost output = { λ fault. Some (token_text fault) };
+
     fn fmt<W: fmt::Write>(&self, f: &mut fmt::Formatter<W>) -> fmt::Result {
-        match self {
-            TokenFault::Stray(place) => write!(f, "the byte at {place} begins no token"),
-            TokenFault::Unclosed(place) => write!(
-                f,
-                "a quoted name is not closed by the end of the line, at {place}"
-            ),
-        }
+        f.write_str(match self {
+            TokenFault::Stray(_) => "No token begins with this character here.",
+            TokenFault::Unclosed(_) => "A quoted name is not closed.",
+        })
     }
 }
 
 impl Error for TokenFault {}
 
 /// The kind of the byte at a place; at the end no token begins.
+/// A kind and no `Option`: callers match the end as they match a byte that begins no token.
 pub fn kind_at(line: &[u8], at: usize) -> Kind
     ensures value { result ≡ head_kind (drop at line.now) }
     ensures inside { Inside result at line.now }
@@ -132,6 +134,7 @@ fn token_at(line: &[u8], start: usize) -> Result<Found<'_>, TokenFault>
     ensures { StartsAs line.now start result }
 {
     let (token, end) = match kind_at(line, start) {
+        // three arms of one shape: a variant as a value would need a contract of its own
         Kind::Small => {
             let (bytes, end) = run_at(line, start, Run::Word);
             (Token::Name(bytes), end)

@@ -8,8 +8,8 @@ ghost use Rattle.chainstore.specs.Rings.{after_at, label_of, end_of};
 ghost use Rattle.chainstore.specs.Views.{meaning_of, links_of};
 
 use crate::chain::ChainStore;
-use crate::note::{Note, Side};
 use crate::rings::{HEADS, head_of, label_of};
+use crate::side::Side;
 use rules::{Full, Indicator, Rule, RuleStore};
 
 impl RuleStore for ChainStore {
@@ -38,18 +38,10 @@ impl RuleStore for ChainStore {
     }
 
     fn erase(&mut self, label: u32) {
-        let Some(note) = self.table.note(label) else {
-            return;
-        };
-        if note.live {
+        let side = self.table.note(label).flatten();
+        if side.is_some() {
             self.rings.remove(HEADS as u32 + label);
-            self.table.set_note(
-                label,
-                Note {
-                    live: false,
-                    ..note
-                },
-            );
+            self.table.set_note(label, None);
         }
     }
 
@@ -64,7 +56,7 @@ impl ChainStore {
         ensures { Adds (end_of side) (meaning_of self.old) (value_of rule.entry) result
             (meaning_of self.new) }
     {
-        let label = self.table.add(rule, Note { side, live: true })?;
+        let label = self.table.add(rule, Some(side))?;
         let head = head_of(rule.indicator);
         self.rings.add(head, side);
         self.known[head as usize] = true;
@@ -83,6 +75,6 @@ impl ChainStore {
     fn is_live(&self, label: u32, indicator: Indicator) -> bool
         ensures { result ≡ holds label (row_of self.now.table.kept indicator.name indicator.arity) }
     {
-        self.table.is_of(label, indicator) && self.table.note(label).is_some_and(|note| note.live)
+        self.table.is_of(label, indicator) && self.table.note(label).flatten().is_some()
     }
 }

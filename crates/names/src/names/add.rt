@@ -10,7 +10,8 @@ use crate::names::{MAX_BYTES, MAX_NAMES, Names};
 use terms::known::MAX_NAME;
 
 impl Names {
-    /// The number of the name, which is added at the end if it is not yet in the table. The names before it keep theirs.
+    /// The number of the name, which is added at the end if it is not yet in the table.
+    /// The names before it keep theirs.
     pub fn intern(&mut self, name: &[u8]) -> Result<u16, NameFault>
         ensures value { result ≡ interned (list self.old) name.now }
         ensures after { list self.new ≡ list_after (list self.old) name.now }

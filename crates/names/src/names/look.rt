@@ -54,6 +54,7 @@ impl Names {
         ensures value { result ≡ place_of (list self.now) name.now }
         ensures bound { IfSome result (λ place. place < 512) }
     {
+        // over numbers: an iterator of names would need laws of its own
         (0..self.len()).find(|i| self.at(*i) == name)
     }
 }

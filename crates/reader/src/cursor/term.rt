@@ -62,6 +62,7 @@ impl<'a> Cursor<'a> {
     }
 
     // The arguments directly behind a name, if any, and their closing bracket; how many there are.
+    // What opens here ends in its own way, as in `bracketed` and `list`, so each tests the brackets left for itself.
     #[cycle(reading_terms)]
     fn arguments(&mut self, left: u8) -> Result<usize, TermFault>
         ensures { ArgumentsReads left self.old self.new result }
@@ -149,6 +150,7 @@ impl<'a> Cursor<'a> {
     pub fn terms(&mut self, left: u8) -> Result<usize, TermFault>
         ensures { TermsReads left self.old self.new result }
     {
+        // the count is the answer, and no index
         let mut count = 0;
         loop {
             self.term(left)?;

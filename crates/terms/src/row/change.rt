@@ -11,6 +11,7 @@ use crate::row::Row;
 use std::alloc::{AllocError, Global};
 
 // No row has more nodes than this.
+// The same number as the greatest line of a writer, and another limit.
 const MOST: usize = 65536;
 
 impl Row {

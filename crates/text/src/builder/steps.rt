@@ -19,6 +19,7 @@ use terms::Node;
 use terms::known::{COMMA, EMPTY_LIST, LIST_CELL, MAX_ARGUMENTS};
 
 // These places as the arguments of a node.
+// An array of eight, as a node has, since memory is fixed.
 fn arguments(places: &[u32]) -> [u32; 8]
     requires { length places.now ≤ 8 }
     ensures { take (length places.now) result ≡ places.now }

@@ -54,6 +54,8 @@ impl TextReader {
     }
 
     /// The query that the text is, in `row`. A text that is refused enters no name.
+    /// It reads and builds by other functions than `rule`; what the two share is `begin`.
+    /// The row is the caller's, so each function says that its limit stays (`SameLimit`).
     pub fn query(
         &mut self,
         text: &[u8],
@@ -117,6 +119,7 @@ impl TextReader {
     }
 
     // The query that the steps build, if it is within the limits.
+    // It shares no step with `stored_rule`. Text, names and row stay apart: a struct of two `&mut` would be no plainer.
     fn asked_query(
         &mut self,
         text: &[u8],

@@ -13,6 +13,7 @@ use crate::piece::{Spot, after, before};
 use itoa::{Buffer, Integer};
 
 // The first place of a variable, or the number of variables where it is not among them.
+// A number and no `Option`: where the variable is new, its number is the answer too.
 fn place(seen: &[u32], variable: u32) -> usize
     ensures value { result ≡ place_in seen.now variable }
     ensures within { result ≤ length seen.now }

@@ -30,6 +30,7 @@ fn arguments(args: &[u32; 8], arity: u8) -> &[u32]
 
 impl LineWriter {
     /// Adds the term at `at`, or nothing of it where it does not all fit. Outside the row stands the number 0.
+    /// Row, place and names stay apart: they belong to three owners, and a struct of borrows would be no plainer.
     pub fn term(&mut self, row: &Row, at: u32, names: &Names) -> Result<(), DoesNotFit>
         ensures { TermAdded self.old self.new (term_of names.now row.now at) result }
     {

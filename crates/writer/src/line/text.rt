@@ -8,6 +8,7 @@ use crate::line::LineWriter;
 use std::alloc::{AllocError, Global};
 
 // No line has more bytes than this.
+// The same number as the greatest space of a store, and another limit.
 const MOST: usize = 65536;
 
 impl LineWriter {

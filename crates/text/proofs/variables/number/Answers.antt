@@ -1,7 +1,6 @@
 -- An earlier variable of the same name, or one more.
 use Rattle.std.proofs.Common.{◌≡◌, ◌<◌, [], ◌∷◌, ◌++◌, length, Some, vec_items, sym, refl, ap, ◌∙◌, arith, rules}
 use Rattle.std.proofs.lemmas.List.{length_push}
-use Rattle.reader.specs.declared.span.Span.{Span}
 use Rattle.text.specs.Numbering.{found_in, number_of, meets}
 use Rattle.text.specs.Building.{cuts}
 use Rattle.text.proofs.NumberingProperties.{number_old, number_below, number_new, length_cuts, cuts_push}

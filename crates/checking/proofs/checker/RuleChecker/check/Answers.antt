@@ -14,7 +14,7 @@ use Rattle.checking.proofs.checker.RuleChecker.check.Goals as goal
 pub returns-in_err-rule : goal.returns-in_err-rule
 returns-in_err-rule c = λ s k.
     let none : problem_of s ≡ None = sym (c.problem.ensures s k) ∙ c.in_default.is in
-    let whole : c.bytes.result.now ≡ s = c.bytes.ensures ∙ kept_whole c.args.line.now s none k in
+    let whole : c.bytes.result.now ≡ s = c.bytes.ensures.value ∙ kept_whole c.args.line.now s none k in
     let p = err_from_is_err_and c.from_residual.result c.from_residual.ensures.1 in
     let P : Result RuleText Refusal → Type 0 = λ r. Checked (list c.args.self.now.names) s (list c.rule.new.names) (row_nodes c.rule.new.row) (reader_spans c.rule.new.self) r in
     let Q : List ℕ → Type 0 = λ x. RuleRead (list c.args.self.now.names) x (list c.rule.new.names) (row_nodes c.rule.new.row) (reader_spans c.rule.new.self) (Err c.in_err-rule.field-0.0) in
@@ -23,6 +23,6 @@ returns-in_err-rule c = λ s k.
 pub returns : goal.returns
 returns c = λ s k.
     let none : problem_of s ≡ None = sym (c.problem.ensures s k) ∙ c.in_default.is in
-    let whole : c.bytes.result.now ≡ s = c.bytes.ensures ∙ kept_whole c.args.line.now s none k in
+    let whole : c.bytes.result.now ≡ s = c.bytes.ensures.value ∙ kept_whole c.args.line.now s none k in
     let Q : List ℕ → Type 0 = λ x. RuleRead (list c.args.self.now.names) x (list c.rule.new.names) (row_nodes c.rule.new.row) (reader_spans c.rule.new.self) (Ok c.in_ok-rule.field-0) in
     (none, subst Q whole (c.in_ok-rule.ensures.read c.args.self.now.nodes))
