@@ -86,6 +86,7 @@ impl Rings {
         ensures { InsertedAt (end_of side) self.old head self.new }
     {
         let link = self.links[head as usize];
+        // an enum and no closure: the ends differ in nothing but the neighbour
         match side {
             Side::Front => self.insert(head, link.after),
             Side::Back => self.insert(link.before, head),

@@ -119,6 +119,7 @@ fn replay<S: RuleStore, W: Write>(
     out: &mut W,
 ) -> anyhow::Result<()> {
     let mut script = Script::new();
+    // so many calls, and no index
     for _ in 0..CALLS {
         if let Some(call) = script.next_call() {
             obey(store, call, nodes, out)?;
