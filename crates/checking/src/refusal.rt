@@ -49,15 +49,24 @@ pub struct Fault {
     pub kind: FaultKind,
 }
 
+impl FaultKind {
+    /// The word for it.
+    pub fn word(&self) -> &'static str
+        ensures { result.now ≡ word_of self.now }
+    {
+        match self {
+            FaultKind::Token => "token",
+            FaultKind::Term => "term",
+            FaultKind::Line => "line",
+        }
+    }
+}
+
 impl fmt::Display for FaultKind {
     ghost output = { λ kind. Some (word_of kind) };
 
     fn fmt<W: fmt::Write>(&self, f: &mut fmt::Formatter<W>) -> fmt::Result {
-        f.write_str(match self {
-            FaultKind::Token => "token",
-            FaultKind::Term => "term",
-            FaultKind::Line => "line",
-        })
+        f.write_str(self.word())
     }
 }
 
@@ -96,31 +105,46 @@ impl Refusal {
             _ => None,
         }
     }
+
+    /// What is wrong, in a sentence.
+    pub fn sentence(&self) -> &'static str
+        ensures { result.now ≡ sentence_of self.now }
+    {
+        match self {
+            Refusal::Line(problem) => problem.sentence(),
+            Refusal::Text(TextFault::TooLong) => LineProblem::TooLong.sentence(),
+            Refusal::Text(text_fault) => text_fault.sentence(),
+        }
+    }
+}
+
+impl LineProblem {
+    /// What is wrong, in a sentence.
+    pub fn sentence(&self) -> &'static str
+        ensures { result.now ≡ line_sentence self.now }
+    {
+        match self {
+            LineProblem::BadByte(_) => "The line has a byte that is no printable ASCII character.",
+            LineProblem::TooLong => "The line is longer than 1019 bytes.",
+        }
+    }
 }
 
 impl fmt::Display for LineProblem {
     ghost output = { λ problem. Some (line_sentence problem) };
 
     fn fmt<W: fmt::Write>(&self, f: &mut fmt::Formatter<W>) -> fmt::Result {
-        f.write_str(match self {
-            LineProblem::BadByte(_) => "The line has a byte that is no printable ASCII character.",
-            LineProblem::TooLong => "The line is longer than 1019 bytes.",
-        })
+        f.write_str(self.sentence())
     }
 }
 
 impl Error for LineProblem {}
 
-// What is wrong, in a sentence.
 impl fmt::Display for Refusal {
     ghost output = { λ refusal. Some (sentence_of refusal) };
 
     fn fmt<W: fmt::Write>(&self, f: &mut fmt::Formatter<W>) -> fmt::Result {
-        match self {
-            Refusal::Line(problem) => write!(f, "{problem}"),
-            Refusal::Text(TextFault::TooLong) => LineProblem::TooLong.fmt(f),
-            Refusal::Text(text_fault) => write!(f, "{text_fault}"),
-        }
+        f.write_str(self.sentence())
     }
 }
 

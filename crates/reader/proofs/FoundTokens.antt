@@ -68,21 +68,33 @@ at_token line pos f k h l e = record {
   later = h.2 l;
 }
 
+-- the token that was found behind the spaces
+pub operand_at : (m n : ℕ) (x : Context) (line : List ℕ) (pos : ℕ) (k : Code) (a e : ℕ)
+    → scan spaced (drop a line) ≡ scan_of k (drop e line) → drop a line ≡ from line pos
+    → onward sentences m (Some (operand n x)) (drop pos line) ≡ operand_by n x (drop a line) (scan_of k (drop e line))
+operand_at m n x line pos k a e is starts =
+    operand_on m n x (drop pos line) ∙ ap (λ r. operand_by n x r (scan spaced r)) (sym starts)
+    ∙ ap (operand_by n x (drop a line)) is
+
 operand_found : (m n : ℕ) (x : Context) (line : List ℕ) (pos : ℕ) (k : Code) (a e : ℕ) → At line pos k a e
     → onward sentences m (Some (operand n x)) (drop pos line) ≡ operand_by n x (drop a line) (scan_of k (drop e line))
-operand_found m n x line pos k a e g =
-    operand_on m n x (drop pos line) ∙ ap (λ r. operand_by n x r (scan spaced r)) (sym g.starts)
-    ∙ ap (operand_by n x (drop a line)) g.is
+operand_found m n x line pos k a e g = operand_at m n x line pos k a e g.is g.starts
 
 even_before : (line : List ℕ) (pos : ℕ) (k : Code) (a e : ℕ) → At line pos k a e
     → quote_open line pos ≡ quote_open line a
 even_before line pos k a e g = even_past_spaces line pos a g.starts
 
+pub even_past_token : (line : List ℕ) (pos : ℕ) (k : Code) (a e : ℕ) (t : Token)
+    → scan spaced (drop a line) ≡ scan_of k (drop e line) → drop a line ≡ from line pos
+    → scan_of k (drop e line) ≡ got t (drop e line)
+    → quote_open line pos ≡ quote_open line e
+even_past_token line pos k a e t is starts h = even_past_spaces line pos a starts
+    ∙ scan_even spaced (drop a line) t (drop e line) (is ∙ h)
+
 even_found : (line : List ℕ) (pos : ℕ) (k : Code) (a e : ℕ) (t : Token) → At line pos k a e
     → scan_of k (drop e line) ≡ got t (drop e line)
     → quote_open line pos ≡ quote_open line e
-even_found line pos k a e t g h = even_before line pos k a e g
-    ∙ scan_even spaced (drop a line) t (drop e line) (g.is ∙ h)
+even_found line pos k a e t g h = even_past_token line pos k a e t g.is g.starts h
 
 -- a variable or an integer
 pub leaf_reaches : {n : ℕ} {line : List ℕ} {pos : ℕ} {k : Code} {a e : ℕ} (t : Token) (w : Written) (o : Op)

@@ -64,29 +64,45 @@ impl From<TermFault> for LineFault {
     }
 }
 
+impl TermFault {
+    /// What is wrong, in a sentence.
+    pub fn sentence(&self) -> &'static str
+        ensures { result.now ≡ term_text self.now }
+    {
+        match self {
+            TermFault::Token(fault) => fault.sentence(),
+            TermFault::Unexpected { .. } => "The term inside the brackets cannot go on like this.",
+        }
+    }
+}
+
 impl fmt::Display for TermFault {
     ghost output = { λ fault. Some (term_text fault) };
 
     fn fmt<W: fmt::Write>(&self, f: &mut fmt::Formatter<W>) -> fmt::Result {
-        match self {
-            TermFault::Token(fault) => write!(f, "{fault}"),
-            TermFault::Unexpected { .. } => {
-                write!(f, "The term inside the brackets cannot go on like this.")
-            }
-        }
+        f.write_str(self.sentence())
     }
 }
 
 impl Error for TermFault {}
 
+impl LineFault {
+    /// What is wrong, in a sentence.
+    pub fn sentence(&self) -> &'static str
+        ensures { result.now ≡ line_text self.now }
+    {
+        match self {
+            LineFault::Term(fault) => fault.sentence(),
+            LineFault::Unexpected(_) => "The rule cannot go on like this.",
+        }
+    }
+}
+
 impl fmt::Display for LineFault {
     ghost output = { λ fault. Some (line_text fault) };
 
     fn fmt<W: fmt::Write>(&self, f: &mut fmt::Formatter<W>) -> fmt::Result {
-        match self {
-            LineFault::Term(fault) => write!(f, "{fault}"),
-            LineFault::Unexpected(_) => write!(f, "The rule cannot go on like this."),
-        }
+        f.write_str(self.sentence())
     }
 }
 

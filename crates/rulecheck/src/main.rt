@@ -6,7 +6,7 @@
 use anyhow::bail;
 use checking::{Fault, LineBuffer, Refusal, RuleChecker};
 use std::env;
-use std::io::{BufReader, BufWriter, Read, Write};
+use std::io::{BufWriter, Read, Write};
 use text::answer::RuleText;
 
 // How many lines there were, and what became of their rules.
@@ -74,12 +74,14 @@ fn tell_refused<W: Write>(
     match refusal.fault() {
         Some(Fault { place, kind }) => {
             let column = place.saturating_add(1);
+            let kind = kind.word();
             writeln!(out, "{line}: refused {number} {column} {kind}")?;
             point_at(out, session, place)?;
         }
         None => writeln!(out, "{line}: refused {number}")?,
     }
-    writeln!(out, "  {refusal}")?;
+    let sentence = refusal.sentence();
+    writeln!(out, "  {sentence}")?;
     Ok(())
 }
 
@@ -96,17 +98,31 @@ fn finish_line<W: Write>(out: &mut W, session: &mut Session) -> anyhow::Result<(
     Ok(())
 }
 
+fn take_bytes<W: Write>(out: &mut W, session: &mut Session, bytes: &[u8]) -> anyhow::Result<()> {
+    for byte in bytes {
+        match *byte {
+            b'\n' => finish_line(out, session)?,
+            byte => session.line.push(byte),
+        }
+    }
+    Ok(())
+}
+
 fn check_input<W: Write>(rt: &HostRuntime, out: &mut W) -> anyhow::Result<Tally> {
     let mut session = Session {
         checker: RuleChecker::new(rt.alloc())?,
         line: LineBuffer::new(rt.alloc())?,
         tally: Tally::default(),
     };
-    for byte in BufReader::new(rt.alloc(), rt.stdin())?.bytes() {
-        match byte? {
-            b'\n' => finish_line(out, &mut session)?,
-            byte => session.line.push(byte),
+    let mut input = rt.stdin();
+    // an array of the function's own: for a `BufReader` the heap may have no room
+    let mut buffer = [0u8; 4096];
+    for _ in 0..u64::MAX {
+        let count = input.read(&mut buffer)?;
+        if count == 0 {
+            break;
         }
+        take_bytes(out, &mut session, &buffer[..count])?;
     }
     if !session.line.is_empty() {
         finish_line(out, &mut session)?;

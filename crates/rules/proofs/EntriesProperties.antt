@@ -146,13 +146,19 @@ module _ {T : Type 0} where
   abbrev pub with_note : Entry T → T → Entry T
   with_note e n = record e { note = n }
 
+  -- an entry that takes the same part of the nodes may stand for another
+  pub laid_set : (s : ℕ) (es : List (Entry T)) (k : ℕ) (d e : Entry T) (n : ℕ) → d ≡ get_or es k d
+      → e.start ≡ d.start → e.size ≡ d.size → laid s (set es k e) n ≡ laid s es n
+  laid_set s [] k d e n is p q = refl
+  laid_set s (c ∷ es) zero d e n is p q =
+      ap (λ m. eqb m s && laid (s + e.size) es n) (p ∙ ap (λ x. x.start) is)
+      ∙ ap (λ m. eqb c.start s && laid (s + m) es n) (q ∙ ap (λ x. x.size) is)
+  laid_set s (c ∷ es) (suc k) d e n is p q =
+      ap (λ b. eqb c.start s && b) (laid_set (s + c.size) es k d e n is p q)
+
   pub laid_noted : (s : ℕ) (es : List (Entry T)) (k : ℕ) (d : Entry T) (note : T) (n : ℕ) → d ≡ get_or es k d
       → laid s (set es k (with_note d note)) n ≡ laid s es n
-  laid_noted s [] k d note n is = refl
-  laid_noted s (e ∷ es) zero d note n is =
-      ap (λ x. eqb x.start s && laid (s + x.size) es n) is
-  laid_noted s (e ∷ es) (suc k) d note n is =
-      ap (λ b. eqb e.start s && b) (laid_noted (s + e.size) es k d note n is)
+  laid_noted s es k d note n is = laid_set s es k d (with_note d note) n is refl refl
 
   pub kept_noted : (ns : List Node) (es : List (Entry T)) (k : ℕ) (d : Entry T) (note : T) → d ≡ get_or es k d
       → kept_of ns (set es k (with_note d note)) ≡ noted (kept_of ns es) k note

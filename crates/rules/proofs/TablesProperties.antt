@@ -65,7 +65,8 @@ module _ {T : Type 0} where
       let two = and_parts (leb 1 labels && leb labels 1024) (leb 256 space) three.0 in
       let one = and_parts (leb 1 labels) (leb labels 1024) two.0 in
       let small = leb-true labels 1024 one.1 in
-      rw e record { few = omega arith; room = omega arith; small = small; named = refl }
+      let short = leb-true space 65536 three.1 in
+      rw e record { few = omega arith; room = omega arith; small = small; short = short; named = refl }
 
   -- there was room for the rule, and the next label is the next one
   pub entered_room : (t u : Table T) (v : Value) (n : T) (l : ℕ) → Entered t v n l u
@@ -89,10 +90,12 @@ module _ {T : Type 0} where
       let labels = e.labels in
       let space = e.space in
       let small = w.small in
+      let short = w.short in
       record {
         few = omega arith;
         room = rw (e.kept, rules_push) (omega arith);
         small = omega arith;
+        short = omega arith;
         named = rw (e.kept, rules_push) (all_fit_push (rules_in t.kept) v w.named s);
       }
 
@@ -105,5 +108,6 @@ module _ {T : Type 0} where
         few = omega arith;
         room = rw (rules_noted t.kept l n) w.room;
         small = w.small;
+        short = w.short;
         named = rw (rules_noted t.kept l n) w.named;
       }

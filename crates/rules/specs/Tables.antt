@@ -47,10 +47,11 @@ module _ {T : Type 0} where
   abbrev pub IsEmpty : ℕ → ℕ → Table T → Type 0
   IsEmpty labels space t = t ≡ record { kept = []; labels = labels; space = space }
 
-  -- No more rules and nodes than the table may hold, no more labels than a store can have, and each rule is of an
-  -- indicator.
+  -- No more rules and nodes than the table may hold, no more labels and no more space than a store can have, and each
+  -- rule is of an indicator.
   pub record IsWithin (t : Table T) : Type 0 where
     pub few : length t.kept ≤ t.labels
     pub room : used (rules_in t.kept) ≤ t.space
     pub small : t.labels ≤ 1024
+    pub short : t.space ≤ 65536
     pub named : list_all (λ v. fits v.name v.arity) (rules_in t.kept) ≡ true

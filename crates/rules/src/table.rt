@@ -153,3 +153,14 @@ fn is_size(labels: usize, space: usize) -> bool
 {
     (1..=MOST_LABELS).contains(&labels) && (LEAST_SPACE..=MOST_SPACE).contains(&space)
 }
+
+#[cfg(test)]
+mod tests {
+    use super::RuleTable;
+
+    #[test]
+    fn a_table_of_a_size_is_made(rt: HostRuntime) {
+        assert!(rt; RuleTable::<u8>::new(rt.alloc(), 1024, 65536).is_ok());
+        assert!(rt; RuleTable::<u8>::new(rt.alloc(), 1025, 65536).is_err());
+    }
+}

@@ -1,12 +1,17 @@
 -- Goal forms of arguments, and their sizes.
 use Rattle.std.proofs.Common.{◌≡◌, ℕ, zero, suc, ◌+◌, ◌≤◌, Bool, true, false, cond, ◌&&◌, ◌||◌, eqb, List, [], ◌∷◌}
 use Rattle.std.proofs.Common.{length, get_or, take, sym, refl, ap, ◌∙◌, add_assoc, zero-add, arith}
-use Rattle.terms.specs.Term.{Term, Terms, app, nil, cons, join, count, size, sizes}
+use Rattle.terms.specs.Term.{Term, Terms, var, int, app, nil, cons, join, count, size, sizes}
 use Rattle.terms.specs.Rows.{terms_at}
 use Rattle.terms.specs.Goals.{goal_form, goal_forms}
 use Rattle.terms.specs.declared.form.Form.{Form}
 use Rattle.terms.specs.declared.form.Form.TheVariants.{Plain, Goal}
 use Rattle.terms.specs.Copies.{Standard, Reads, formed, passed_on}
+
+pub size_positive : (t : Term) → 1 ≤ size t
+size_positive (var v) = omega arith
+size_positive (int i) = omega arith
+size_positive (app f ts) = omega arith
 
 pub sizes_join : (ts us : Terms) → sizes (join ts us) ≡ sizes ts + sizes us
 sizes_join nil us = sym (zero-add (sizes us))

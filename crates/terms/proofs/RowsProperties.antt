@@ -149,6 +149,18 @@ push_some limit xs x p e = elim (cases_Bool (takes limit xs x)) [ inl t ↦ take
         let z : ◌≡◌ {A = ℕ} 0 1 = cc in
         absurd (omega arith)
 
+-- a node that was not taken leaves the row as it was
+pub push_none : (limit : ℕ) (xs : List Node) (x : Node) → None ≡ place_for limit xs x
+    → (with_node limit xs x ≡ xs) × (takes limit xs x ≡ false)
+push_none limit xs x e =
+    elim (cases_Bool (takes limit xs x)) [ inl t ↦ taken t | inr f ↦ (ap (λ b. cond b (xs ++ x ∷ []) xs) f, f) ]
+  where
+    taken : takes limit xs x ≡ true → (with_node limit xs x ≡ xs) × (takes limit xs x ≡ false)
+    taken t =
+        let some : None ≡ Some (length xs) = e ∙ ap (λ b. cond b (Some (length xs)) None) t in
+        let z : ◌≡◌ {A = ℕ} 0 1 = cc in
+        absurd (omega arith)
+
 -- in such a row an application has at most eight arguments
 pub app_arity : (xs : List Node) → fitting_from 0 xs ≡ true → (i : ℕ) → i < length xs → (f n : ℕ) (is : List ℕ)
     → get_or xs i no_node ≡ App f n is → n ≤ 8

@@ -66,48 +66,75 @@ impl From<LimitFault> for TextFault {
     }
 }
 
-impl fmt::Display for LimitFault {
-    ghost output = { λ fault. Some (limit_sentence fault) };
-
-    fn fmt<W: fmt::Write>(&self, f: &mut fmt::Formatter<W>) -> fmt::Result {
-        f.write_str(match self {
+impl LimitFault {
+    /// What is wrong, in a sentence.
+    pub fn sentence(&self) -> &'static str
+        ensures { result.now ≡ limit_sentence self.now }
+    {
+        match self {
             LimitFault::Integer => "An integer does not fit into 32 bits.",
             LimitFault::LongName => "A name is longer than 64 bytes.",
             LimitFault::Arguments => "A term has more than 8 arguments.",
             LimitFault::Variables => "The rule has more than 32 variables.",
             LimitFault::Nodes => "The rule has more than 256 nodes.",
             LimitFault::Names => "The table of names is full.",
-        })
+        }
+    }
+}
+
+impl fmt::Display for LimitFault {
+    ghost output = { λ fault. Some (limit_sentence fault) };
+
+    fn fmt<W: fmt::Write>(&self, f: &mut fmt::Formatter<W>) -> fmt::Result {
+        f.write_str(self.sentence())
     }
 }
 
 impl Error for LimitFault {}
 
-impl fmt::Display for HeadFault {
-    ghost output = { λ fault. Some (head_sentence fault) };
-
-    fn fmt<W: fmt::Write>(&self, f: &mut fmt::Formatter<W>) -> fmt::Result {
-        f.write_str(match self {
+impl HeadFault {
+    /// What is wrong, in a sentence.
+    pub fn sentence(&self) -> &'static str
+        ensures { result.now ≡ head_sentence self.now }
+    {
+        match self {
             HeadFault::VariableHead => "The head is a variable.",
             HeadFault::IntegerHead => "The head is an integer.",
             HeadFault::BuiltInHead => "The head is a built-in predicate.",
             HeadFault::IntegerBody => "The body is an integer.",
-        })
+        }
+    }
+}
+
+impl fmt::Display for HeadFault {
+    ghost output = { λ fault. Some (head_sentence fault) };
+
+    fn fmt<W: fmt::Write>(&self, f: &mut fmt::Formatter<W>) -> fmt::Result {
+        f.write_str(self.sentence())
     }
 }
 
 impl Error for HeadFault {}
 
+impl TextFault {
+    /// What is wrong, in a sentence.
+    pub fn sentence(&self) -> &'static str
+        ensures { result.now ≡ text_sentence self.now }
+    {
+        match self {
+            TextFault::TooLong => "The text is longer than 1024 bytes.",
+            TextFault::Grammar(grammar) => grammar.sentence(),
+            TextFault::Limit(limit) => limit.sentence(),
+            TextFault::Head(head) => head.sentence(),
+        }
+    }
+}
+
 impl fmt::Display for TextFault {
     ghost output = { λ fault. Some (text_sentence fault) };
 
     fn fmt<W: fmt::Write>(&self, f: &mut fmt::Formatter<W>) -> fmt::Result {
-        match self {
-            TextFault::TooLong => write!(f, "The text is longer than 1024 bytes."),
-            TextFault::Grammar(grammar) => write!(f, "{grammar}"),
-            TextFault::Limit(limit) => write!(f, "{limit}"),
-            TextFault::Head(head) => write!(f, "{head}"),
-        }
+        f.write_str(self.sentence())
     }
 }
 

@@ -44,15 +44,23 @@ pub enum TokenFault {
     Unclosed(usize),
 }
 
-// In a sentence, for the owner of the line, who is shown the place itself.
+impl TokenFault {
+    /// What is wrong, in a sentence for the owner of the line, who is shown the place itself.
+    pub fn sentence(&self) -> &'static str
+        ensures { result.now ≡ token_text self.now }
+    {
+        match self {
+            TokenFault::Stray(_) => "No token begins with this character here.",
+            TokenFault::Unclosed(_) => "A quoted name is not closed.",
+        }
+    }
+}
+
 impl fmt::Display for TokenFault {
     ghost output = { λ fault. Some (token_text fault) };
 
     fn fmt<W: fmt::Write>(&self, f: &mut fmt::Formatter<W>) -> fmt::Result {
-        f.write_str(match self {
-            TokenFault::Stray(_) => "No token begins with this character here.",
-            TokenFault::Unclosed(_) => "A quoted name is not closed.",
-        })
+        f.write_str(self.sentence())
     }
 }
 
@@ -75,11 +83,9 @@ pub fn run_end(line: &[u8], pos: usize, run: Run) -> usize
     ensures value { drop result line.now ≡ past (in_run run) (drop pos line.now) }
     ensures within { (pos ≤ result) × (pos ≤ length line.now → result ≤ length line.now) }
 {
-    pos + line
-        .iter()
-        .skip(pos)
-        .take_while(|b| in_run(run, **b))
-        .count()
+    // a slice and no `skip`, which would pass over all bytes before the place one by one
+    let rest = &line[pos.min(line.len())..];
+    pos + rest.iter().take_while(|b| in_run(run, **b)).count()
 }
 
 // Behind the quote that closes the name whose inside begins at `pos`. A doubled quote stands for one.

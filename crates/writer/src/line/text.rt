@@ -1,6 +1,6 @@
 //! How a line is made, and bytes as they are.
 
-ghost use Rattle.std.specs.Prelude.{◌≡◌, min, [], IfOk};
+ghost use Rattle.std.specs.Prelude.{◌≡◌, ◌+◌, ◌≤◌, min, [], ◌++◌, length, IfOk, vec_len, vec_capacity};
 ghost use Rattle.writer.specs.Lines.{line_bytes, line_seen, line_limit, PutsBytes, TextAdded};
 
 use crate::fault::DoesNotFit;
@@ -10,6 +10,19 @@ use std::alloc::{AllocError, Global};
 // No line has more bytes than this.
 // The same number as the greatest space of a store, and another limit.
 const MOST: usize = 65536;
+
+// Puts the text behind the bytes, in the memory that is reserved for it.
+// Byte by byte: most texts have one or two, and std's `extend_from_slice` takes more time for so few.
+fn append(bytes: &mut Vec<u8>, text: &[u8])
+    requires { vec_len bytes.old + length text.now ≤ vec_capacity bytes.old }
+    ensures items { bytes.new.items ≡ bytes.old.items ++ text.now }
+    ensures len { vec_len bytes.new ≡ vec_len bytes.old + length text.now }
+    ensures capacity { vec_capacity bytes.new ≡ vec_capacity bytes.old }
+{
+    for byte in text {
+        bytes.push_reserved(*byte);
+    }
+}
 
 impl LineWriter {
     /// An empty line for at most `limit` bytes, or 65,536 where that is less.
@@ -45,7 +58,7 @@ impl LineWriter {
         if text.len() > self.limit - self.bytes.len() {
             return Err(DoesNotFit);
         }
-        self.bytes.extend_from_slice(text).unwrap();
+        append(&mut self.bytes, text);
         Ok(())
     }
 
