@@ -1,3 +1,4 @@
+-- Reading leaves the buffer as long as it was made.
 use Rattle.std.proofs.Common.{◌≡◌, length}
 use Rattle.rulecheck.proofs.check_input.Given as goal
 
